@@ -1,0 +1,5 @@
+pub mod Cases
+pub mod Tables
+pub mod Greatest
+pub mod Heavy
+pub mod Forms

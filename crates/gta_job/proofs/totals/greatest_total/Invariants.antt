@@ -1,0 +1,15 @@
+use Rattle.std.proofs.Common.{◌≡◌, ℕ, ◌+◌, ◌-◌, ◌<◌, ◌≤◌, ℤ, pos, ◌+ℤ◌, ◌≤ℤ◌, length}
+use Rattle.gta_job.specs.declared.totals.TheConstants.{WEIGHT_BOUND}
+use Rattle.gta_job.specs.Answer.{weight_of_rows}
+use Rattle.gta_job.proofs.Greatest.{gains}
+use Rattle.gta_job.proofs.totals.greatest_total.Given as goal
+
+abbrev pub invariant-loop-row : goal.invariant-loop-row
+invariant-loop-row l = record {
+  weight : l.weight ≡ weight_of_rows l.values l.row;
+  light : (k : ℕ) → k < l.row → weight_of_rows l.values (k + 1) ≤ WEIGHT_BOUND;
+  within : l.weight ≤ WEIGHT_BOUND;
+  low : pos 0 ≤ℤ l.best;
+  high : l.best ≤ℤ pos l.weight;
+  rest : l.best +ℤ gains l.values l.row (length l.values - l.row) ≡ gains l.values 0 (length l.values);
+}

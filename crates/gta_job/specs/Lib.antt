@@ -1,0 +1,4 @@
+pub mod SmallForm
+pub mod Answer
+pub mod Texts
+pub mod Jobs
