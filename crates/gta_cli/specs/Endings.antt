@@ -1,0 +1,42 @@
+-- When a command has a text, and why it has none. What is not told of the source claims nothing.
+use Rattle.std.specs.Prelude.{ℕ, ◌≡◌, List, Option, Some, None, IfSome, IsSome}
+use Rattle.std.specs.Option.{IsSomeAnd}
+use Rattle.std.specs.Io.KnownBytes.{Appends}
+use Rattle.gta_port.specs.Port.{GainsFront}
+use Rattle.gta_port.specs.declared.reading.ReadEnd.{ReadEnd}
+use Rattle.gta_port.specs.declared.reading.ReadEnd.TheVariants as read
+use Rattle.gta_words.specs.declared.words.Command.{Command}
+use Rattle.gta_job.specs.declared.refusal.Refusal.TheVariants.{Input}
+use Rattle.gta_job.specs.declared.job.JobEnd.{JobEnd}
+use Rattle.gta_job.specs.declared.job.JobEnd.TheVariants as job
+use Rattle.gta_job.specs.Jobs.{refusal_of, text_of}
+use Rattle.gta_cli.specs.declared.ending.Ending.{Ending}
+use Rattle.gta_cli.specs.declared.ending.Ending.TheVariants.{Usage, Refused, ReadFault, Memory}
+
+-- the text of a command that is not refused on these bytes
+abbrev pub IsText : Option Command → Option (List ℕ) → List ℕ → Type 0
+IsText asked left text =
+    IsSomeAnd asked (λ command. IfSome left (λ bytes. (refusal_of command bytes ≡ None) × (text ≡ text_of command bytes)))
+
+-- why there is no text; fault says that a read failed, and steady that none did
+abbrev pub Explains : Option Command → Option (List ℕ) → Type 0 → Type 0 → Ending → Type 0
+Explains asked left fault steady Usage = asked ≡ None
+Explains asked left fault steady (Refused refusal) =
+    steady × IsSomeAnd asked (λ command. IfSome left (λ bytes. refusal_of command bytes ≡ Some refusal))
+Explains asked left fault steady ReadFault = IsSome asked × fault
+Explains asked left fault steady Memory = Unit {0}
+
+-- what the end of a read ends with
+abbrev pub ending_of_read : ReadEnd → Ending
+ending_of_read read.ReadFault = ReadFault
+ending_of_read read.TooLong = Refused Input
+ending_of_read read.Memory = Memory
+
+-- what the end of a job ends with
+abbrev pub ending_of_job : JobEnd → Ending
+ending_of_job (job.Refused refusal) = Refused refusal
+ending_of_job job.Memory = Memory
+
+-- a sink gains a front of a line, and the whole of it unless a write failed
+abbrev pub Says : Option (List ℕ) → Option (List ℕ) → List ℕ → Type 0 → Type 0
+Says old new line failed = GainsFront old new line × (¬ failed → Appends old new line)
