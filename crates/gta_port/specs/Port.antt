@@ -1,4 +1,4 @@
--- What the clauses on sources and sinks say: a count of faults that rose, and bytes that went over in part.
+-- What the clauses on sources and sinks say: a count that rose, and bytes that went over in part.
 -- Known bytes are an `Option`; where it is `None`, nothing is claimed.
 use Rattle.std.specs.Prelude.{ℕ, ◌+◌, ◌≤◌, min, List, length, take, Option}
 use Rattle.std.specs.Io.KnownBytes.{Appends, Consumes}

@@ -31,8 +31,8 @@ pub trait Sink {
 
     ghost faults: { Self → ℕ };
 
-    /// Takes bytes from the front of `bytes` and gives their number, at least 1 where there are any.
-    /// A fault takes none.
+    /// Takes bytes from the front of `bytes` and gives their number, which is 0 only where there
+    /// are none. A fault takes none.
     fn write(&mut self, bytes: &[u8]) -> Result<usize, Failed>
         ensures bound { IfOk result (λ n. n ≤ length bytes.now) }
         ensures takes { IfOk result (λ n. 0 < length bytes.now → 0 < n) }

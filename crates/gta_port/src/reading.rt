@@ -1,5 +1,6 @@
 //! Reading a source to its end, up to a limit.
-//! An `Ok` has at most `limit` bytes, a fault came after at most as many, and TooLong took one more.
+//! An `Ok` has at most `limit` bytes, a fault came after at most as many, and TooLong took one
+//! more.
 ghost use Rattle.std.specs.Prelude.{◌≡◌, ◌≤◌, ◌+◌, length, IfOk, OnOk, IsErrOf};
 ghost use Rattle.std.specs.Io.KnownBytes.{Consumes, IsAtEnd};
 ghost use Rattle.gta_port.specs.Port.{ConsumesSome, Rose};
