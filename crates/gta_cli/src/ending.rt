@@ -7,12 +7,11 @@ ghost use Rattle.gta_port.specs.Port.{Rose};
 ghost use Rattle.gta_words.specs.Words.{command_of};
 ghost use Rattle.gta_cli.specs.Endings.{IsText, Explains};
 
-use std::alloc::Global;
-use std::thread::Threads;
-
 use gta_job::{INPUT_LIMIT, JobEnd, Refusal, answer_job};
 use gta_port::{ReadEnd, Source, read_all};
 use gta_words::{Command, read_words};
+use std::alloc::Global;
+use std::thread::Threads;
 
 /// How many workers a run has where the words don't say.
 const WORKERS: u32 = 4;

@@ -4,14 +4,14 @@
 
 mod ending;
 mod says;
+#[cfg(test)]
+mod tests;
 mod top;
 
-
+use gta_port::{StdSink, StdSource};
 use std::alloc::AllocError;
 use std::env;
 use std::process::ExitCode;
-
-use gta_port::{StdSink, StdSource};
 
 /// The status where the system gave no words. `gta_main` never answers it.
 const NO_WORDS: u8 = 6;
@@ -31,6 +31,13 @@ fn main(rt: HostRuntime) -> ExitCode {
     let mut source = StdSource::new(rt.stdin());
     let mut out = StdSink::new(rt.stdout());
     let mut err = StdSink::new(rt.stderr());
-    let status = top::gta_main(&rt, rt.alloc(), words.as_slice(), &mut source, &mut out, &mut err);
+    let status = top::gta_main(
+        &rt,
+        rt.alloc(),
+        words.as_slice(),
+        &mut source,
+        &mut out,
+        &mut err,
+    );
     ExitCode::from(status)
 }

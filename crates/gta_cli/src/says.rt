@@ -6,9 +6,8 @@ ghost use Rattle.gta_port.specs.Port.{GainsFront, Rose};
 ghost use Rattle.gta_cli.specs.Endings.{Says};
 ghost use Rattle.gta_cli.specs.declared.top.TheConstants.{WRITE_FAULT};
 
-use gta_port::{Sink, write_all_of};
-
 use crate::top::WRITE_FAULT;
+use gta_port::{Sink, write_all_of};
 
 /// Writes a line as far as it goes: whole where no write failed.
 pub(crate) fn say<E: Sink>(err: &mut E, line: &[u8])

@@ -13,14 +13,12 @@ ghost use Rattle.gta_job.specs.Texts.{fault_text};
 ghost use Rattle.gta_cli.specs.Endings.{Says};
 ghost use Rattle.gta_cli.specs.Lines.{usage_line, read_fault_line, write_fault_line, out_of_memory_line};
 
-use std::alloc::Global;
-use std::thread::Threads;
-
-use gta_job::fault_line;
-use gta_port::{Sink, Source, write_all_of};
-
 use crate::ending::{Ending, answer};
 use crate::says::{said, say};
+use gta_job::fault_line;
+use gta_port::{Sink, Source, write_all_of};
+use std::alloc::Global;
+use std::thread::Threads;
 
 /// The status where the text went out whole.
 pub const ANSWERED: u8 = 0;
@@ -36,8 +34,11 @@ pub const WRITE_FAULT: u8 = 4;
 pub const NO_MEMORY: u8 = 5;
 
 const USAGE_LINE: &[u8] = b"usage: gta run|show|list|drill [--workers N] [--leaf N] [SEED ROWS]\n";
+
 const READ_FAULT_LINE: &[u8] = b"read fault\n";
+
 const WRITE_FAULT_LINE: &[u8] = b"write fault\n";
+
 const OUT_OF_MEMORY_LINE: &[u8] = b"out of memory\n";
 
 /// Does what the words ask for with the source's bytes: writes the text to `out`, or says on `err` why
@@ -55,14 +56,14 @@ pub fn gta_main<R: Threads + Sync, S: Source, O: Sink, E: Sink>(
     // Answered: the text of an accepted command went out, and nothing else.
     ensures answered { result ≡ ANSWERED → IsSomeAnd (command_of (map string_bytes words.now)) (λ command.
         IfSome (S.left source.old) (λ bytes.
-            (refusal_of command bytes ≡ None) × Appends (O.gone out.old) (O.gone out.new) (text_of command bytes))) }
+        (refusal_of command bytes ≡ None) × Appends (O.gone out.old) (O.gone out.new) (text_of command bytes))) }
     ensures read_whole { result ≡ ANSWERED → IsAtEnd (S.left source.new) }
     ensures nothing_said { result ≡ ANSWERED → err.new ≡ err.old }
 
     // Refused: the fault line of the command's refusal on these bytes went out.
     ensures refused { result ≡ REFUSED → IsSomeAnd (command_of (map string_bytes words.now)) (λ command.
         IfSome (S.left source.old) (λ bytes. IsSomeAnd (refusal_of command bytes) (λ refusal.
-            Appends (E.gone err.old) (E.gone err.new) (fault_text refusal)))) }
+        Appends (E.gone err.old) (E.gone err.new) (fault_text refusal)))) }
     ensures no_read_failed { (result ≡ ANSWERED) ⊎ (result ≡ REFUSED) → S.faults source.new ≡ S.faults source.old }
 
     // Usage: the words are no command, and nothing was read.
@@ -77,11 +78,11 @@ pub fn gta_main<R: Threads + Sync, S: Source, O: Sink, E: Sink>(
     ensures write_failed { result ≡ WRITE_FAULT → Rose (O.faults out.old) (O.faults out.new) ⊎ Rose (E.faults err.old) (E.faults err.new) }
     ensures answer_cut { result ≡ WRITE_FAULT → IfSome (command_of (map string_bytes words.now)) (λ command.
         IfSome (S.left source.old) (λ bytes. refusal_of command bytes ≡ None →
-            Rose (O.faults out.old) (O.faults out.new) × GainsFront (O.gone out.old) (O.gone out.new) (text_of command bytes))) }
+        Rose (O.faults out.old) (O.faults out.new) × GainsFront (O.gone out.old) (O.gone out.new) (text_of command bytes))) }
     ensures refusal_cut { result ≡ WRITE_FAULT → IfSome (command_of (map string_bytes words.now)) (λ command.
         IfSome (S.left source.old) (λ bytes. IfSome (refusal_of command bytes) (λ refusal.
-            Rose (E.faults err.old) (E.faults err.new) × (out.new ≡ out.old)
-            × GainsFront (E.gone err.old) (E.gone err.new) (fault_text refusal)))) }
+        Rose (E.faults err.old) (E.faults err.new) × (out.new ≡ out.old)
+        × GainsFront (E.gone err.old) (E.gone err.new) (fault_text refusal)))) }
     ensures usage_cut { result ≡ WRITE_FAULT → command_of (map string_bytes words.now) ≡ None →
         Rose (E.faults err.old) (E.faults err.new) × (out.new ≡ out.old) × GainsFront (E.gone err.old) (E.gone err.new) usage_line }
 
@@ -106,7 +107,7 @@ pub fn gta_main<R: Threads + Sync, S: Source, O: Sink, E: Sink>(
         Says (E.gone err.old) (E.gone err.new) out_of_memory_line (Rose (E.faults err.old) (E.faults err.new)) }
     ensures write_fault_said { result ≡ WRITE_FAULT → IfSome (command_of (map string_bytes words.now)) (λ command.
         IfSome (S.left source.old) (λ bytes. refusal_of command bytes ≡ None →
-            Says (E.gone err.old) (E.gone err.new) write_fault_line (Rose (E.faults err.old) (E.faults err.new)))) }
+        Says (E.gone err.old) (E.gone err.new) write_fault_line (Rose (E.faults err.old) (E.faults err.new)))) }
 {
     match answer(rt, alloc, words, source) {
         Ok(text) => match write_all_of(out, text.as_slice()) {

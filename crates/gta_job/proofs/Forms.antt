@@ -35,7 +35,7 @@ pub not_headed : (name bytes text : List ℕ) → name ≡ column_name bytes →
     → bytes_eq (take (length text) bytes) text ≡ false → None ≡ small_form bytes
 not_headed name bytes text e is other =
     let differs : bytes_eq (take (length (head name)) bytes) (head name) ≡ false =
-        ap (λ t. bytes_eq (take (length t) bytes) t) (sym is) ∙ other in
+    ap (λ t. bytes_eq (take (length t) bytes) t) (sym is) ∙ other in
     let step : form_named name bytes ≡ None = rw (differs, and-false (is_name_text name && nat_le (length name) NAME_LIMIT)) refl in
     sym (named name bytes e ∙ step)
 
@@ -44,9 +44,9 @@ pub headed : (name bytes text : List ℕ) → name ≡ column_name bytes → tex
     → rows_of (ended_lines (drop (length text) bytes)) ≡ small_form bytes
 headed name bytes text e is is_named short same =
     let begins : bytes_eq (take (length (head name)) bytes) (head name) ≡ true =
-        ap (λ t. bytes_eq (take (length t) bytes) t) (sym is) ∙ same in
+    ap (λ t. bytes_eq (take (length t) bytes) t) (sym is) ∙ same in
     let step : form_named name bytes ≡ rows_of (ended_lines (drop (length (head name)) bytes)) =
-        rw (is_named, short_enough name short, begins) refl in
+    rw (is_named, short_enough name short, begins) refl in
     ap (λ t. rows_of (ended_lines (drop (length t) bytes))) is ∙ sym step ∙ sym (named name bytes e)
 
 pub too_short : (bytes : List ℕ) → length bytes < 14 → column_name bytes ≡ []

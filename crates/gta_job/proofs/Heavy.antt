@@ -18,7 +18,7 @@ first_passing test first (suc count) (suc i) within here before =
     let f : test first ≡ false = ap test (let e : first ≡ first + zero = omega arith in e) ∙ before zero (omega arith) in
     let e : (first + 1) + i ≡ first + suc i = omega arith in
     rw f (first_passing test (first + 1) count i (omega arith) (ap test e ∙ here)
-        (λ k below. ap test (let s : (first + 1) + k ≡ first + suc k = omega arith in s) ∙ before (suc k) (omega arith)) ∙ ap Some e)
+    (λ k below. ap test (let s : (first + 1) + k ≡ first + suc k = omega arith in s) ∙ before (suc k) (omega arith)) ∙ ap Some e)
 
 none_passing : (test : ℕ → Bool) (first count : ℕ) → ((k : ℕ) → k < count → test (first + k) ≡ false)
     → slice_get (filter test (range_with_len first count)) 0 ≡ None
@@ -26,7 +26,7 @@ none_passing test first zero fails = refl
 none_passing test first (suc count) fails =
     let f : test first ≡ false = ap test (let e : first ≡ first + zero = omega arith in e) ∙ fails zero (omega arith) in
     rw f (none_passing test (first + 1) count
-        (λ k below. ap test (let s : (first + 1) + k ≡ first + suc k = omega arith in s) ∙ fails (suc k) (omega arith)))
+    (λ k below. ap test (let s : (first + 1) + k ≡ first + suc k = omega arith in s) ∙ fails (suc k) (omega arith)))
 
 pub first_heavy-found : (values : List ℤ) (row : ℕ) → row < length values → WEIGHT_BOUND < weight_of_rows values (row + 1)
     → ((k : ℕ) → k < row → weight_of_rows values (k + 1) ≤ WEIGHT_BOUND) → first_heavy values ≡ Some row

@@ -4,12 +4,11 @@ ghost use Rattle.std.specs.Prelude.{◌≡◌, ◌≤◌, length, None, IfOk, If
 ghost use Rattle.gta_words.specs.declared.words.Command.TheVariants.{Run};
 ghost use Rattle.gta_job.specs.Jobs.{job_refusal, text_of, IsEndOf};
 
-use std::alloc::{AllocError, Global};
-use std::thread::Threads;
-
 use crate::refusal::{Refusal, report};
 use crate::small_form::small_rows;
 use crate::totals::greatest_total;
+use std::alloc::{AllocError, Global};
+use std::thread::Threads;
 
 /// Why a job has no text.
 #[derive(Clone, Copy, PartialEq, Eq, Debug)]

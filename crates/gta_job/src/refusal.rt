@@ -28,7 +28,9 @@ pub fn fault_line(alloc: Global, refusal: &Refusal) -> Result<Vec<u8>, AllocErro
         Refusal::Unbuilt => Vec::from_slice(alloc, b"refused 1: not built yet\n"),
         Refusal::Heavy { row } => {
             let place = u64::from(row) + 1;
-            let text = format!(in alloc; "refused 41: row {place}: weight total past 4611686018427387903\n")?;
+            let text = format!(in alloc;
+                "refused 41: row {place}: weight total past 4611686018427387903\n"
+            )?;
             Ok(text.into_bytes())
         }
     }

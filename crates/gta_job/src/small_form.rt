@@ -5,9 +5,8 @@ ghost use Rattle.std.specs.Prelude.{◌≡◌, ◌≤◌, option_map, length, If
 ghost use Rattle.gta_text.specs.Lines.{split_line};
 ghost use Rattle.gta_job.specs.SmallForm.{head, column_name, ended_lines, rows_of, small_form};
 
-use std::alloc::{AllocError, Global};
-
 use gta_text::{field_value, first_line, is_name};
+use std::alloc::{AllocError, Global};
 
 /// The most rows that a job may have.
 pub const ROW_LIMIT: usize = 100000;
@@ -76,5 +75,9 @@ fn table_rows(alloc: Global, table: &[u8]) -> Result<Option<Vec<i64>>, AllocErro
         values.push(value)?;
         rest = after;
     }
-    if rest.is_empty() { Ok(Some(values)) } else { Ok(None) }
+    if rest.is_empty() {
+        Ok(Some(values))
+    } else {
+        Ok(None)
+    }
 }

@@ -7,16 +7,17 @@ pub returns-then-not-is_name-clause-rows : goal.returns-then-not-is_name-clause-
 returns-then-not-is_name-clause-rows c =
     not_named c.column_name-name.result.now c.args.bytes.now c.column_name-name.ensures
     (elim c.then-not-is_name.either [
-      inl unnamed ↦ inl (sym c.is_name.ensures ∙ unnamed)
-    | inr both ↦ inr (sym c.is_name.ensures ∙ both.0, both.1) ])
+      | inl unnamed ↦ inl (sym c.is_name.ensures ∙ unnamed)
+      | inr both ↦ inr (sym c.is_name.ensures ∙ both.0, both.1)
+    ])
 
 pub returns-in-Some-clause-rows : goal.returns-in-Some-clause-rows
 returns-in-Some-clause-rows c =
     let cases = c.in-Some.ensures.cases in
     let rows = ap (λ t. rows_of (ended_lines t)) cases.1
-        ∙ headed c.column_name-name.result.now c.args.bytes.now c.as_slice.result.now c.column_name-name.ensures
-          (c.as_slice.ensures.value ∙ c.in_ok-head.ensures) (sym c.is_name.ensures ∙ c.if-not-is_name.false)
-          c.if-name-gt-NAME_LIMIT.false cases.0 in
+    ∙ headed c.column_name-name.result.now c.args.bytes.now c.as_slice.result.now c.column_name-name.ensures
+    (c.as_slice.ensures.value ∙ c.in_ok-head.ensures) (sym c.is_name.ensures ∙ c.if-not-is_name.false)
+    c.if-name-gt-NAME_LIMIT.false cases.0 in
     subst (λ form. IfOk c.table_rows.result (λ rows. option_map (λ v. v.items) rows ≡ form)) rows c.table_rows.ensures.rows
 
 pub returns-clause-rows : goal.returns-clause-rows

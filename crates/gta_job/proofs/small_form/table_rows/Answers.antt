@@ -24,7 +24,7 @@ loop-cell-preserved c =
     let fits : SFits w64 c.in-Some-field_value.value = search rules in
     let n = to_z w64 (of_z w64 c.in-Some-field_value.value) in
     let is : Some n ≡ cell_number c.in-Some.cell.now =
-        ap Some (to_z-of_z w64 c.in-Some-field_value.value fits) ∙ c.in-Some-field_value.ensures in
+    ap Some (to_z-of_z w64 c.in-Some-field_value.value fits) ∙ c.in-Some-field_value.ensures in
     record {
       so_far = rows-more c.args.table.now c.loop-cell.rest.now c.loop-cell.values.items c.loop-cell.invariant.so_far
           c.in-Some.cell.now c.in-Some.after.now n c.push.new.self.items c.in-Some.ensures is c.in_ok-push.ensures.items;

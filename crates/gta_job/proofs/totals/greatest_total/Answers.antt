@@ -13,9 +13,9 @@ returns-then-weight-gt-WEIGHT_BOUND-clause-heavy c =
     let value = slice_index_or c.args.values.now c.loop-row.row (pos 0) in
     let fits : SFits w64 value = search rules in
     let more : c.unsigned_abs-weight.result ≡ unsigned_abs value =
-        c.unsigned_abs-weight.ensures.value ∙ ap unsigned_abs (to_z-of_z w64 value fits) in
+    c.unsigned_abs-weight.ensures.value ∙ ap unsigned_abs (to_z-of_z w64 value fits) in
     let weight = weight-row c.args.values.now c.loop-row.row c.loop-row.weight c.unsigned_abs-weight.result
-        c.loop-row-test.true c.loop-row.invariant.weight more in
+    c.loop-row-test.true c.loop-row.invariant.weight more in
     first_heavy-found c.args.values.now c.loop-row.row c.loop-row-test.true
     (subst (λ w. WEIGHT_BOUND < w) weight c.if-weight-gt-WEIGHT_BOUND.true) c.loop-row.invariant.light
 
@@ -25,11 +25,11 @@ loop-row-preserved c =
     let value = slice_index_or c.args.values.now c.loop-row.row (pos 0) in
     let fits : SFits w64 value = search rules in
     let more : c.unsigned_abs-weight.result ≡ unsigned_abs value =
-        c.unsigned_abs-weight.ensures.value ∙ ap unsigned_abs (to_z-of_z w64 value fits) in
+    c.unsigned_abs-weight.ensures.value ∙ ap unsigned_abs (to_z-of_z w64 value fits) in
     let weight = weight-row c.args.values.now c.loop-row.row c.loop-row.weight c.unsigned_abs-weight.result
-        c.loop-row-test.true c.loop-row.invariant.weight more in
+    c.loop-row-test.true c.loop-row.invariant.weight more in
     let next : to_z w64 (of_z w64 c.max-best.result) ≡ int_max best (best +ℤ value) =
-        omega (arith, ints, clamps) in
+    omega (arith, ints, clamps) in
     record {
       weight = weight;
       light = below_more _ _ c.loop-row.invariant.light (subst (λ w. w ≤ WEIGHT_BOUND) weight c.if-weight-gt-WEIGHT_BOUND.false);

@@ -1,0 +1,393 @@
+//! The worked examples over the top call: what is printed and where, limits, and faults at each call.
+
+use super::top::gta_main;
+use gta_port::{MemorySink, MemorySource};
+use std::alloc::Global;
+use std::test::Fail;
+use std::thread::Threads;
+
+const HEAD: &[u8] = b"gta 1\ncolumns v\ngenerate sublists\naggregate max v\nrows\nv\n";
+
+const USAGE: &[u8] = b"usage: gta run|show|list|drill [--workers N] [--leaf N] [SEED ROWS]\n";
+
+/// How the source, the output and the error output of a run behave.
+#[derive(Clone, Copy)]
+struct Ports {
+    source_chunk: u8,
+    source_fails: &'static [u64],
+    out_chunk: u8,
+    out_fails: &'static [u64],
+    err_chunk: u8,
+    err_fails: &'static [u64],
+}
+
+const SMOOTH: Ports = Ports {
+    source_chunk: 255,
+    source_fails: &[],
+    out_chunk: 255,
+    out_fails: &[],
+    err_chunk: 255,
+    err_fails: &[],
+};
+
+/// What a run left behind.
+#[derive(Drop)]
+struct Ended {
+    status: u8,
+    out: Vec<u8>,
+    err: Vec<u8>,
+}
+
+fn words_of(alloc: Global, texts: &[&str]) -> Result<Vec<String>, Fail> {
+    let mut words = Vec::new(alloc);
+    for text in texts {
+        words.push(String::from_str(alloc, text)?)?;
+    }
+    Ok(words)
+}
+
+fn sink(alloc: Global, chunk: u8, fails: &[u64]) -> Result<MemorySink, Fail> {
+    let fails = Vec::from_slice(alloc, fails)?;
+    Ok(MemorySink::new(alloc, 200, usize::from(chunk.max(1)), fails)?)
+}
+
+fn called<R: Threads + Sync>(
+    rt: &R,
+    alloc: Global,
+    texts: &[&str],
+    input: &[u8],
+    ports: Ports,
+) -> Result<Ended, Fail> {
+    let words = words_of(alloc, texts)?;
+    let bytes = Vec::from_slice(alloc, input)?;
+    let fails = Vec::from_slice(alloc, ports.source_fails)?;
+    let mut source = MemorySource::new(bytes, usize::from(ports.source_chunk.max(1)), fails);
+    let mut out = sink(alloc, ports.out_chunk, ports.out_fails)?;
+    let mut err = sink(alloc, ports.err_chunk, ports.err_fails)?;
+    let status = gta_main(rt, alloc, words.as_slice(), &mut source, &mut out, &mut err);
+    Ok(Ended {
+        status,
+        out: Vec::from_slice(alloc, out.bytes())?,
+        err: Vec::from_slice(alloc, err.bytes())?,
+    })
+}
+
+fn with_head(alloc: Global, cells: &[u8]) -> Result<Vec<u8>, Fail> {
+    let mut input = Vec::from_slice(alloc, HEAD)?;
+    input.extend_from_slice(cells)?;
+    Ok(input)
+}
+
+#[test]
+fn cells_of_the_small_form(rt: HostRuntime) -> Result<(), Fail> {
+    let unbuilt: &[u8] = b"refused 1: not built yet\n";
+    let cases: [(&[u8], u8, &[u8], &[u8]); 13] = [
+        (b"3\n-1\n4\n", 0, b"answer 7\n", b""),
+        (b"", 0, b"answer 0\n", b""),
+        (b"-3\n-1\n", 0, b"answer 0\n", b""),
+        (
+            b"4611686018427387903\n",
+            0,
+            b"answer 4611686018427387903\n",
+            b"",
+        ),
+        (
+            b"4611686018427387903\n1\n",
+            1,
+            b"",
+            b"refused 41: row 2: weight total past 4611686018427387903\n",
+        ),
+        (
+            b"-4611686018427387903\n0\n-1\n5\n",
+            1,
+            b"",
+            b"refused 41: row 3: weight total past 4611686018427387903\n",
+        ),
+        (b"+5\n-0\n007\n", 0, b"answer 12\n", b""),
+        (b"5 \n", 1, b"", unbuilt),
+        (b"5\n\n", 1, b"", unbuilt),
+        (b"5\r\n", 1, b"", unbuilt),
+        (b"5\n6", 1, b"", unbuilt),
+        (b"4611686018427387904\n", 1, b"", unbuilt),
+        (b"+\n", 1, b"", unbuilt),
+    ];
+    for (cells, status, out, err) in cases {
+        let input = with_head(rt.alloc(), cells)?;
+        let ended = called(&rt, rt.alloc(), &["run"], input.as_slice(), SMOOTH)?;
+        assert_eq!(rt; ended.status, status, "status at {cells:?}");
+        assert_eq!(rt; ended.out.as_slice(), out, "output at {cells:?}");
+        assert_eq!(rt; ended.err.as_slice(), err, "error output at {cells:?}");
+    }
+    Ok(())
+}
+
+#[test]
+fn inputs_of_another_form_are_not_built(rt: HostRuntime) -> Result<(), Fail> {
+    let inputs: [&[u8]; 8] = [
+        b"",
+        b"gta 1\ncolumns v\ngenerate sublists\naggregate count\nrows\nv\n1\n",
+        b"gta 1\ncolumns rows\ngenerate sublists\naggregate max rows\nrows\nrows\n1\n",
+        b"gta 1\ncolumns v\ngenerate sublists\naggregate max w\nrows\nv\n1\n",
+        b"gta 1\ncolumns v\ngenerate sublists\naggregate max v\nrows\nw\n1\n",
+        b"gta 1\ncolumns 1v\ngenerate sublists\naggregate max 1v\nrows\n1v\n1\n",
+        b"gta 1\ncolumns  v\ngenerate sublists\naggregate max v\nrows\nv\n1\n",
+        b"gta 1\ncolumns v",
+    ];
+    for input in inputs {
+        let ended = called(&rt, rt.alloc(), &["run"], input, SMOOTH)?;
+        assert_eq!(rt; ended.status, 1, "status at {input:?}");
+        assert_eq!(rt;
+            ended.err.as_slice(),
+            b"refused 1: not built yet\n".as_slice(),
+            "at {input:?}"
+        );
+    }
+    Ok(())
+}
+
+#[test]
+fn words_that_are_no_command(rt: HostRuntime) -> Result<(), Fail> {
+    let lists: [&[&str]; 5] = [&[], &["run", "x"], &["help"], &["Run"], &[""]];
+    for texts in lists {
+        let ended = called(&rt, rt.alloc(), texts, HEAD, SMOOTH)?;
+        assert_eq!(rt; ended.status, 2, "status at {texts:?}");
+        assert_eq!(rt; ended.out.len(), 0, "output at {texts:?}");
+        assert_eq!(rt; ended.err.as_slice(), USAGE, "error output at {texts:?}");
+    }
+    Ok(())
+}
+
+// The number of cells, each a 1 on a line of its own.
+#[test]
+fn the_most_rows(rt: HostRuntime) -> Result<(), Fail> {
+    let cases: [(u32, &[u8], &[u8]); 2] = [
+        (100_000, b"answer 100000\n", b""),
+        (100_001, b"", b"refused 1: not built yet\n"),
+    ];
+    for (count, out, err) in cases {
+        let mut input = Vec::from_slice(rt.alloc(), HEAD)?;
+        for _ in 0..count {
+            input.extend_from_slice(b"1\n")?;
+        }
+        let ended = called(&rt, rt.alloc(), &["run"], input.as_slice(), SMOOTH)?;
+        assert_eq!(rt; ended.out.as_slice(), out, "output at {count}");
+        assert_eq!(rt; ended.err.as_slice(), err, "error output at {count}");
+    }
+    Ok(())
+}
+
+// Bytes that are no job; the first number is the most that is read as one.
+#[test]
+fn the_most_bytes(rt: HostRuntime) -> Result<(), Fail> {
+    let cases: [(u32, &[u8]); 2] = [
+        (16_777_216, b"refused 1: not built yet\n"),
+        (16_777_217, b"refused 45: input past 16777216 bytes\n"),
+    ];
+    for (count, err) in cases {
+        let mut input = Vec::new(rt.alloc());
+        for _ in 0..count {
+            input.push(b'x')?;
+        }
+        let ended = called(&rt, rt.alloc(), &["run"], input.as_slice(), SMOOTH)?;
+        assert_eq!(rt; ended.status, 1, "status at {count}");
+        assert_eq!(rt; ended.err.as_slice(), err, "error output at {count}");
+    }
+    Ok(())
+}
+
+#[test]
+fn a_source_of_any_chunk(rt: HostRuntime) -> Result<(), Fail> {
+    let input = with_head(rt.alloc(), b"3\n-1\n4\n")?;
+    for source_chunk in 1..=40 {
+        let ports = Ports {
+            source_chunk,
+            ..SMOOTH
+        };
+        let ended = called(&rt, rt.alloc(), &["run"], input.as_slice(), ports)?;
+        assert_eq!(rt;
+            ended.out.as_slice(),
+            b"answer 7\n".as_slice(),
+            "at {source_chunk}"
+        );
+    }
+    Ok(())
+}
+
+// What faults at listed calls leave: the first example with chunks of four bytes, and words that are no command.
+#[test]
+fn faults_at_each_call(rt: HostRuntime) -> Result<(), Fail> {
+    let fours = Ports {
+        source_chunk: 40,
+        out_chunk: 4,
+        err_chunk: 4,
+        ..SMOOTH
+    };
+    let cases: [(&str, Ports, u8, &[u8], &[u8]); 13] = [
+        (
+            "run",
+            Ports {
+                source_fails: &[1],
+                ..fours
+            },
+            3,
+            b"",
+            b"read fault\n",
+        ),
+        (
+            "run",
+            Ports {
+                source_fails: &[2],
+                ..fours
+            },
+            3,
+            b"",
+            b"read fault\n",
+        ),
+        (
+            "run",
+            Ports {
+                source_fails: &[3],
+                ..fours
+            },
+            3,
+            b"",
+            b"read fault\n",
+        ),
+        (
+            "run",
+            Ports {
+                source_fails: &[4],
+                ..fours
+            },
+            0,
+            b"answer 7\n",
+            b"",
+        ),
+        (
+            "run",
+            Ports {
+                source_fails: &[1],
+                err_fails: &[2],
+                ..fours
+            },
+            3,
+            b"",
+            b"read",
+        ),
+        (
+            "run",
+            Ports {
+                out_fails: &[1],
+                ..fours
+            },
+            4,
+            b"",
+            b"write fault\n",
+        ),
+        (
+            "run",
+            Ports {
+                out_fails: &[2],
+                ..fours
+            },
+            4,
+            b"answ",
+            b"write fault\n",
+        ),
+        (
+            "run",
+            Ports {
+                out_fails: &[3],
+                ..fours
+            },
+            4,
+            b"answer 7",
+            b"write fault\n",
+        ),
+        (
+            "run",
+            Ports {
+                out_fails: &[4],
+                ..fours
+            },
+            0,
+            b"answer 7\n",
+            b"",
+        ),
+        (
+            "run",
+            Ports {
+                out_fails: &[2],
+                err_fails: &[3],
+                ..fours
+            },
+            4,
+            b"answ",
+            b"write fa",
+        ),
+        (
+            "run",
+            Ports {
+                out_chunk: 1,
+                err_fails: &[1],
+                ..fours
+            },
+            0,
+            b"answer 7\n",
+            b"",
+        ),
+        (
+            "",
+            Ports {
+                source_fails: &[1],
+                err_fails: &[1],
+                ..fours
+            },
+            4,
+            b"",
+            b"",
+        ),
+        (
+            "",
+            Ports {
+                source_fails: &[1],
+                err_fails: &[3],
+                ..fours
+            },
+            4,
+            b"",
+            b"usage: g",
+        ),
+    ];
+    let input = with_head(rt.alloc(), b"3\n-1\n4\n")?;
+    for (word, ports, status, out, err) in cases {
+        let ended = called(&rt, rt.alloc(), &[word], input.as_slice(), ports)?;
+        let fails = (ports.source_fails, ports.out_fails, ports.err_fails);
+        assert_eq!(rt; ended.status, status, "status at {fails:?}");
+        assert_eq!(rt; ended.out.as_slice(), out, "output at {fails:?}");
+        assert_eq!(rt; ended.err.as_slice(), err, "error output at {fails:?}");
+    }
+    Ok(())
+}
+
+// A refusal whose line is cut by a fault of the error output.
+#[test]
+fn a_refusal_cut_by_a_fault(rt: HostRuntime) -> Result<(), Fail> {
+    let cases: [(&[u64], u8, &[u8]); 3] = [
+        (&[1], 4, b""),
+        (&[3], 4, b"refused "),
+        (&[8], 1, b"refused 1: not built yet\n"),
+    ];
+    for (err_fails, status, err) in cases {
+        let ports = Ports {
+            err_chunk: 4,
+            err_fails,
+            ..SMOOTH
+        };
+        let ended = called(&rt, rt.alloc(), &["run"], b"gta 1\n", ports)?;
+        assert_eq!(rt; ended.status, status, "status at {err_fails:?}");
+        assert_eq!(rt; ended.out.len(), 0, "output at {err_fails:?}");
+        assert_eq!(rt; ended.err.as_slice(), err, "error output at {err_fails:?}");
+    }
+    Ok(())
+}
