@@ -6,191 +6,71 @@ use std::io;
 use std::io::Read;
 use std::test::Fail;
 
-#[derive(Clone, Copy)]
-struct ReadCase {
-    chunk: usize,
-    fails: &'static [u64],
-    limit: u8,
-    first: Result<&'static [u8], ReadEnd>,
-    second: Result<&'static [u8], ReadEnd>,
-}
+type Expected = Result<&'static [u8], ReadEnd>;
 
 fn read_few(alloc: Global, source: &mut MemorySource, limit: u8) -> Result<Vec<u8>, ReadEnd> {
     read_all(alloc, source, usize::from(limit))
 }
 
+// The chunk, the calls that fail, the limit, and what the first and the second `read_all` give.
 #[test]
 fn a_fault_in_mid_stream_and_the_bytes_after_it(rt: HostRuntime) -> Result<(), Fail> {
-    let cases = [
-        ReadCase {
-            chunk: 1,
-            fails: &[],
-            limit: 8,
-            first: Ok(b"abcdefgh"),
-            second: Ok(b""),
-        },
-        ReadCase {
-            chunk: 3,
-            fails: &[],
-            limit: 9,
-            first: Ok(b"abcdefgh"),
-            second: Ok(b""),
-        },
-        ReadCase {
-            chunk: 9,
-            fails: &[],
-            limit: 8,
-            first: Ok(b"abcdefgh"),
-            second: Ok(b""),
-        },
-        ReadCase {
-            chunk: 9,
-            fails: &[],
-            limit: 7,
-            first: Err(ReadEnd::TooLong),
-            second: Ok(b""),
-        },
-        ReadCase {
-            chunk: 2,
-            fails: &[],
-            limit: 4,
-            first: Err(ReadEnd::TooLong),
-            second: Ok(b"fgh"),
-        },
-        ReadCase {
-            chunk: 3,
-            fails: &[1],
-            limit: 8,
-            first: Err(ReadEnd::ReadFault),
-            second: Ok(b"abcdefgh"),
-        },
-        ReadCase {
-            chunk: 3,
-            fails: &[7, 2],
-            limit: 8,
-            first: Err(ReadEnd::ReadFault),
-            second: Ok(b"defgh"),
-        },
-        ReadCase {
-            chunk: 3,
-            fails: &[4],
-            limit: 8,
-            first: Err(ReadEnd::ReadFault),
-            second: Ok(b""),
-        },
-        ReadCase {
-            chunk: 3,
-            fails: &[5],
-            limit: 8,
-            first: Ok(b"abcdefgh"),
-            second: Err(ReadEnd::ReadFault),
-        },
+    let cases: [(usize, &[u64], u8, Expected, Expected); 9] = [
+        (1, &[], 8, Ok(b"abcdefgh"), Ok(b"")),
+        (3, &[], 9, Ok(b"abcdefgh"), Ok(b"")),
+        (9, &[], 8, Ok(b"abcdefgh"), Ok(b"")),
+        (9, &[], 7, Err(ReadEnd::TooLong), Ok(b"")),
+        (2, &[], 4, Err(ReadEnd::TooLong), Ok(b"fgh")),
+        (3, &[1], 8, Err(ReadEnd::ReadFault), Ok(b"abcdefgh")),
+        (3, &[7, 2], 8, Err(ReadEnd::ReadFault), Ok(b"defgh")),
+        (3, &[4], 8, Err(ReadEnd::ReadFault), Ok(b"")),
+        (3, &[5], 8, Ok(b"abcdefgh"), Err(ReadEnd::ReadFault)),
     ];
-    for (number, case) in cases.iter().enumerate() {
+    for (chunk, listed, limit, first, second) in cases {
         let bytes = Vec::from_slice(rt.alloc(), b"abcdefgh")?;
-        let fails = Vec::from_slice(rt.alloc(), case.fails)?;
-        let mut source = MemorySource::new(bytes, case.chunk, fails);
-        let first = read_few(rt.alloc(), &mut source, case.limit);
-        assert_eq!(rt;
-            first.as_ref().map(|v| v.as_slice()),
-            case.first.as_ref().map(|v| *v),
-            "first of {number}"
-        );
-        let second = read_few(rt.alloc(), &mut source, case.limit);
-        assert_eq!(rt;
-            second.as_ref().map(|v| v.as_slice()),
-            case.second.as_ref().map(|v| *v),
-            "second of {number}"
-        );
+        let fails = Vec::from_slice(rt.alloc(), listed)?;
+        let mut source = MemorySource::new(bytes, chunk, fails);
+        for (turn, expected) in [("first", first), ("second", second)] {
+            let read = read_few(rt.alloc(), &mut source, limit);
+            let bytes = read.as_ref().map(|v| v.as_slice());
+            assert_eq!(rt;
+                bytes,
+                expected.as_ref().map(|v| *v),
+                "{turn} at {chunk}, {listed:?}"
+            );
+        }
     }
     Ok(())
 }
 
-#[derive(Clone, Copy)]
-struct WriteCase {
-    room: usize,
-    chunk: usize,
-    fails: &'static [u64],
-    first: Result<(), WriteEnd>,
-    second: Result<(), WriteEnd>,
-    bytes: &'static [u8],
-}
-
+// The room, the chunk, the calls that fail, what the first and the second `write_all_of` give, and
+// the bytes that went out.
 #[test]
 fn the_front_that_went_out_before_a_fault(rt: HostRuntime) -> Result<(), Fail> {
     let fault = |gone| Err(WriteEnd::WriteFault { gone });
-    let cases = [
-        WriteCase {
-            room: 20,
-            chunk: 4,
-            fails: &[],
-            first: Ok(()),
-            second: Ok(()),
-            bytes: b"answer 7\n..",
-        },
-        WriteCase {
-            room: 20,
-            chunk: 4,
-            fails: &[2],
-            first: fault(4),
-            second: Ok(()),
-            bytes: b"answ..",
-        },
-        WriteCase {
-            room: 20,
-            chunk: 4,
-            fails: &[1, 2],
-            first: fault(0),
-            second: fault(0),
-            bytes: b"",
-        },
-        WriteCase {
-            room: 20,
-            chunk: 4,
-            fails: &[4],
-            first: Ok(()),
-            second: fault(0),
-            bytes: b"answer 7\n",
-        },
-        WriteCase {
-            room: 10,
-            chunk: 9,
-            fails: &[],
-            first: Ok(()),
-            second: fault(1),
-            bytes: b"answer 7\n.",
-        },
-        WriteCase {
-            room: 5,
-            chunk: 3,
-            fails: &[],
-            first: fault(5),
-            second: fault(0),
-            bytes: b"answe",
-        },
-        WriteCase {
-            room: 0,
-            chunk: 1,
-            fails: &[],
-            first: fault(0),
-            second: fault(0),
-            bytes: b"",
-        },
+    let cases: [(usize, usize, &[u64], _, _, &[u8]); 7] = [
+        (20, 4, &[], Ok(()), Ok(()), b"answer 7\n.."),
+        (20, 4, &[2], fault(4), Ok(()), b"answ.."),
+        (20, 4, &[1, 2], fault(0), fault(0), b""),
+        (20, 4, &[4], Ok(()), fault(0), b"answer 7\n"),
+        (10, 9, &[], Ok(()), fault(1), b"answer 7\n."),
+        (5, 3, &[], fault(5), fault(0), b"answe"),
+        (0, 1, &[], fault(0), fault(0), b""),
     ];
-    for (number, case) in cases.iter().enumerate() {
-        let fails = Vec::from_slice(rt.alloc(), case.fails)?;
-        let mut sink = MemorySink::new(rt.alloc(), case.room, case.chunk, fails)?;
+    for (room, chunk, listed, first, second, bytes) in cases {
+        let fails = Vec::from_slice(rt.alloc(), listed)?;
+        let mut sink = MemorySink::new(rt.alloc(), room, chunk, fails)?;
         assert_eq!(rt;
             write_all_of(&mut sink, b"answer 7\n"),
-            case.first,
-            "first of {number}"
+            first,
+            "first at {room}, {listed:?}"
         );
         assert_eq!(rt;
             write_all_of(&mut sink, b".."),
-            case.second,
-            "second of {number}"
+            second,
+            "second at {room}, {listed:?}"
         );
-        assert_eq!(rt; sink.bytes(), case.bytes, "bytes of {number}");
+        assert_eq!(rt; sink.bytes(), bytes, "bytes at {room}, {listed:?}");
     }
     Ok(())
 }
