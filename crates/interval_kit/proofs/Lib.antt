@@ -1,0 +1,2 @@
+-- Lemmas on cuts.
+pub mod EvenCut

@@ -1,0 +1,11 @@
+//! Intervals of rows with a value, and lists of bounds that cut the rows into leaves.
+//! `lo..hi` is half-open, and rows count from 0. What a cut is stands in specs/Cut.antt.
+#![tactic(auto)]
+
+mod cut;
+mod piece;
+#[cfg(test)]
+mod tests;
+
+pub use cut::{Cut, CutFault, cut_at, cut_of};
+pub use piece::Piece;
