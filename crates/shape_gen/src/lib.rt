@@ -1,0 +1,6 @@
+//! The mark of a candidate.
+#![tactic(auto)]
+
+mod mark;
+
+pub use mark::Mark;
