@@ -1,0 +1,9 @@
+//! Counting: a number that goes up by one for each step, and takes no bytes when the program runs.
+//! The counter is in steps.rt.
+#![tactic(auto)]
+
+mod steps;
+#[cfg(test)]
+mod tests;
+
+pub use steps::Steps;
