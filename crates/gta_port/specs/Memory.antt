@@ -10,10 +10,12 @@ pub record Calls : Type 0 where
   pub made : ℕ
   pub faults : ℕ
 
+-- a source in memory: the bytes not yet read
 pub record MemoryReads : Type 0 where
   pub left : List ℕ
   pub calls : Calls
 
+-- a sink in memory: the bytes taken, and how many it can hold
 pub record MemoryWrites : Type 0 where
   pub gone : List ℕ
   pub room : ℕ
@@ -27,11 +29,14 @@ next_count n = min (n + 1) last_count
 abbrev pub FailsNext : Calls → Type 0
 FailsNext calls = Contains calls.fails (next_count calls.made)
 
+-- before the first call
 abbrev pub no_calls : ℕ → List ℕ → Calls
 no_calls chunk fails = record { chunk = chunk; fails = fails; made = 0; faults = 0 }
 
+-- after a call that was no fault
 abbrev pub after_call : Calls → Calls
 after_call calls = record calls { made = next_count calls.made }
 
+-- after a call that was one
 abbrev pub after_fault : Calls → Calls
 after_fault calls = record calls { made = next_count calls.made; faults = next_count calls.faults }
