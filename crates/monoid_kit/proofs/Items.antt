@@ -1,5 +1,5 @@
 -- Lemmas on the items of lists.
-use Rattle.std.proofs.Common.{Bool, true, false, List, [], ◌∷◌, ◌++◌, map, cond, refl, sym, inl, inr, subst}
+use Rattle.std.proofs.Common.{◌≡◌, ℕ, zero, suc, ◌<◌, Bool, true, false, List, [], ◌∷◌, ◌++◌, length, get_or, take, map, cond, inl, inr, refl, sym, subst, arith}
 use Rattle.std.specs.List.{filter, flat_map}
 use Rattle.monoid_kit.specs.Items.{IsIn, AllElements}
 
@@ -42,3 +42,46 @@ module _ {E X : Type 0} (is_element : E → Type 0) (f : X → E) where
   AllElements-filter test (x ∷ xs) in_xs =
       AllElements-cons_where (test x) x (filter test xs) (in_xs x (inl refl))
       (AllElements-filter test xs (λ z z_in. in_xs z (inr z_in)))
+
+  pub AllElements-pairs : {Y Z : Type 0} (g : Y → Z → X) (ys : List Y) (zs : List Z)
+      → ((y : Y) → IsIn y ys → AllElements is_element (λ z. f (g y z)) zs)
+      → AllElements is_element f (flat_map (λ y. map (g y) zs) ys)
+  AllElements-pairs g ys zs in_each =
+      AllElements-flat_map (λ y. map (g y) zs) ys (λ y y_in. AllElements-map (g y) zs (in_each y y_in))
+
+module _ {X : Type 0} where
+  pub IsIn-get_or : (xs : List X) (i : ℕ) (default : X) → i < length xs → IsIn (get_or xs i default) xs
+  IsIn-get_or [] i default in_xs = absurd (omega arith)
+  IsIn-get_or (x ∷ xs) zero default in_xs = inl refl
+  IsIn-get_or (x ∷ xs) (suc i) default in_xs = inr (IsIn-get_or xs i default (omega arith))
+
+  -- what a read of the list gives
+  pub IsIn-read : (xs : List X) (i : ℕ) (x : X) → i < length xs → x ≡ get_or xs i x → IsIn x xs
+  IsIn-read xs i x in_xs is = subst (λ y. IsIn y xs) (sym is) (IsIn-get_or xs i x in_xs)
+
+  -- an item has a place
+  pub IsIn-place : (xs : List X) (x default : X) → IsIn x xs → (i : ℕ) × (i < length xs) × (get_or xs i default ≡ x)
+  IsIn-place [] x default x_in = absurd x_in
+  IsIn-place (y ∷ xs) x default x_in = elim x_in [
+      inl same ↦ (0, omega arith, sym same)
+    | inr later ↦
+        let there = IsIn-place xs x default later in
+        let below : there.0 < length xs = there.1 in
+        (suc there.0, omega arith, there.2) ]
+
+  pub IsIn-take : (n : ℕ) (xs : List X) (x : X) → IsIn x (take n xs) → IsIn x xs
+  IsIn-take zero xs x x_in = absurd x_in
+  IsIn-take (suc n) [] x x_in = absurd x_in
+  IsIn-take (suc n) (y ∷ xs) x x_in = elim x_in [
+      inl same ↦ inl same
+    | inr later ↦ inr (IsIn-take n xs x later) ]
+
+  pub IsIn-append_left : (xs ys : List X) (x : X) → IsIn x xs → IsIn x (xs ++ ys)
+  IsIn-append_left [] ys x x_in = absurd x_in
+  IsIn-append_left (y ∷ xs) ys x x_in = elim x_in [
+      inl same ↦ inl same
+    | inr later ↦ inr (IsIn-append_left xs ys x later) ]
+
+  pub IsIn-append_right : (xs ys : List X) (x : X) → IsIn x ys → IsIn x (xs ++ ys)
+  IsIn-append_right [] ys x x_in = x_in
+  IsIn-append_right (y ∷ xs) ys x x_in = inr (IsIn-append_right xs ys x x_in)

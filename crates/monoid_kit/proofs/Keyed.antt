@@ -3,7 +3,7 @@ use Rattle.std.proofs.Common.{◌≡◌, ℕ, zero, suc, ◌+◌, ◌<◌, ◌�
 use Rattle.std.specs.List.{filter, range_with_len}
 use Rattle.std.proofs.lemmas.Bool.{cases_eq, eq-eqb, ne_eqb}
 use Rattle.monoid_kit.specs.Monoid.{IsCommutativeMonoidOn}
-use Rattle.monoid_kit.specs.Items.{AllElements}
+use Rattle.monoid_kit.specs.Items.{IsIn, AllElements}
 use Rattle.monoid_kit.specs.Product.{product_by, only}
 use Rattle.monoid_kit.specs.Keyed.{keyed, IsAdditive}
 use Rattle.monoid_kit.proofs.Products.{product_by-unit, product_by-same, product_by-mul, product_by-is_element, product_by-filter, only-is_element}
@@ -20,6 +20,21 @@ module _ {E : Type 0} {is_element : E → Type 0} {unit : E} {mul : E → E → 
       → keyed unit mul key f xs k ≡ product_by unit mul f (filter (λ x. nat_eq (key x) k) xs)
   keyed-filter key f xs k elements =
       sym (product_by-filter abelian.monoid (λ x. nat_eq (key x) k) f xs elements)
+
+  -- what is additive for each item is so for their product
+  pub product_by-IsAdditive : {X : Type 0} (g : X → E → E) (xs : List X)
+      → ((x : X) → IsIn x xs → IsAdditive is_element unit mul (g x))
+      → IsAdditive is_element unit mul (λ a. product_by unit mul (λ x. g x a) xs)
+  product_by-IsAdditive g xs additive = record {
+    keeps_elements = λ a a_in. product_by-is_element abelian.monoid (λ x. g x a) xs (λ x x_in. (additive x x_in).keeps_elements a a_in);
+    keeps_unit = product_by-unit abelian.monoid (λ x. g x unit) xs (λ x x_in. (additive x x_in).keeps_unit);
+    keeps_products = λ a b a_in b_in.
+        product_by-same unit mul (λ x. g x (mul a b)) (λ x. mul (g x a) (g x b)) xs
+            (λ x x_in. (additive x x_in).keeps_products a b a_in b_in)
+        ∙ product_by-mul abelian (λ x. g x a) (λ x. g x b) xs
+            (λ x x_in. (additive x x_in).keeps_elements a a_in)
+            (λ x x_in. (additive x x_in).keeps_elements b b_in)
+  }
 
 module _ {E : Type 0} {is_element : E → Type 0} {unit : E} {mul : E → E → E} (abelian : IsCommutativeMonoidOn is_element unit mul)
     (g : ℕ → E → E) (additive : (k : ℕ) → IsAdditive is_element unit mul (g k)) where

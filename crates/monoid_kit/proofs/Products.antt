@@ -3,9 +3,9 @@
 use Rattle.std.proofs.Common.{◌≡◌, Bool, true, false, List, [], ◌∷◌, ◌++◌, map, cond, inl, inr, refl, sym, ap, ◌∙◌}
 use Rattle.std.specs.List.{filter, flat_map}
 use Rattle.monoid_kit.specs.Monoid.{IsMonoidOn, IsCommutativeMonoidOn}
-use Rattle.monoid_kit.specs.Items.{IsIn, AllElements}
+use Rattle.monoid_kit.specs.Items.{IsIn, AllElements, pairs}
 use Rattle.monoid_kit.specs.Product.{product_by, only}
-use Rattle.monoid_kit.proofs.Items.{AllElements-flat_map, AllElements-filter}
+use Rattle.monoid_kit.proofs.Items.{AllElements-flat_map, AllElements-filter, AllElements-map}
 
 -- of any operation
 
@@ -61,6 +61,16 @@ module _ {E : Type 0} {is_element : E → Type 0} {unit : E} {mul : E → E → 
       product_by-append f (g x) (flat_map g xs) (elements x (inl refl))
       (AllElements-flat_map is_element f g xs (λ y y_in. elements y (inr y_in)))
       ∙ ap (mul (product_by unit mul f (g x))) (product_by-flat_map f g xs (λ y y_in. elements y (inr y_in)))
+
+  pub product_by-pairs : {X Y : Type 0} (f : X × Y → E) (xs : List X) (ys : List Y)
+      → ((x : X) → IsIn x xs → (y : Y) → IsIn y ys → is_element (f (x, y)))
+      → product_by unit mul f (pairs xs ys) ≡ product_by unit mul (λ x. product_by unit mul (λ y. f (x, y)) ys) xs
+  product_by-pairs {X = X} f xs ys elements =
+      product_by-flat_map f (λ x. map (λ y. (x, y)) ys) xs
+          (λ x x_in. AllElements-map is_element f (λ y. (x, y)) ys (elements x x_in))
+      ∙ product_by-same unit mul (λ x. product_by unit mul f (map (λ y. (x, y)) ys))
+          (λ x. product_by unit mul (λ y. f (x, y)) ys) xs
+          (λ x x_in. product_by-map unit mul f (λ y. (x, y)) ys)
 
   pub only-is_element : (test : Bool) (a : E) → is_element a → is_element (only unit test a)
   only-is_element true a element = element

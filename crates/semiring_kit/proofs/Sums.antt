@@ -68,6 +68,21 @@ module _ {E : Type 0} {r : SemiringOn E} (laws : IsSemiring r) where
             (laws.multiplication.product_is_element a c a_sound c_sound);
       }
 
+  pub masked_mul_right-IsAdditive : (test : Bool) (b : E) → r.is_sound b
+      → IsAdditive r.is_sound r.zero r.add (λ a. masked r test (r.mul a b))
+  masked_mul_right-IsAdditive test b b_sound =
+      let mask = masked-IsAdditive test in
+      record {
+        keeps_elements = λ a a_sound. mask.keeps_elements (r.mul a b)
+            (laws.multiplication.product_is_element a b a_sound b_sound);
+        keeps_unit = ap (masked r test) (laws.absorbs_left b b_sound) ∙ mask.keeps_unit;
+        keeps_products = λ a c a_sound c_sound.
+            ap (masked r test) (laws.distributes_right a c b a_sound c_sound b_sound)
+            ∙ mask.keeps_products (r.mul a b) (r.mul c b)
+                (laws.multiplication.product_is_element a b a_sound b_sound)
+                (laws.multiplication.product_is_element c b c_sound b_sound)
+      }
+
   -- good elements
 
   pub zero_is_good : IsGood r r.zero

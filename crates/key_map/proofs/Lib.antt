@@ -1,0 +1,5 @@
+pub mod Convolutions
+mod Slots
+mod Rows
+mod Maps
+mod Searches

@@ -1,0 +1,17 @@
+use Rattle.std.proofs.Common.{◌+◌, ◌*◌, ◌≤◌, length, take}
+use Rattle.semiring_kit.specs.Total.{total}
+use Rattle.key_map.specs.Slots.{product_at}
+use Rattle.key_map.specs.Rows.{IsGathered}
+use Rattle.key_map.proofs.sparse_kit.SparseKitMapKit.convolve.Given as goal
+
+abbrev pub invariant-loop-left : goal.invariant-loop-left
+invariant-loop-left g l =
+    let ring = g.S.Semiring.ring l.self.kit in
+    let times = g.M.Monoid.mul l.self.keys in
+    let b = l.b.items in
+    record {
+      gathered : IsGathered ring l.initial.row.items l.row.items
+          (λ k. total ring (λ left. total ring (λ right. product_at ring times left right k) b) (take l.left-index l.left-items))
+          (l.left-index * length b);
+      cost : l.steps ≤ l.initial.steps + l.left-index * length b;
+    }

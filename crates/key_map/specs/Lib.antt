@@ -1,0 +1,4 @@
+pub mod Convolution
+pub mod Slots
+pub mod SlotLaws
+pub mod Rows

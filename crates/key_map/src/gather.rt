@@ -1,0 +1,134 @@
+//! The steps of sums and of convolutions: values are added up in a row with a place for each key.
+//! They are methods of a trait, since a method of an impl can't call a function whose bound has a type that is `Send`.
+
+ghost use Rattle.std.specs.Prelude.{◌≡◌, ℕ, ◌+◌, ◌<◌, ◌≤◌, length, nat_eq, OnOk};
+ghost use Rattle.monoid_kit.specs.Items.{AllElements};
+ghost use Rattle.semiring_kit.specs.Semiring.{SemiringOn, IsGood, weight_bound};
+ghost use Rattle.semiring_kit.specs.Total.{total, masked, total_at_key};
+ghost use Rattle.key_map.specs.Slots.{key_of, elem_of, product_at};
+ghost use Rattle.key_map.specs.Rows.{IsGoodRow, IsGathered};
+
+use crate::slot::Slot;
+use crate::sparse_kit::SparseKit;
+use monoid_kit::Monoid;
+use semiring_kit::Semiring;
+use std::alloc::{AllocError, Global};
+use std::sync::ledger::Ledger;
+use step_count::Steps;
+
+pub(crate) trait Gather: Drop {
+    type Item: Drop;
+
+    ghost ring: { Self → SemiringOn Self.Item };
+
+    ghost size: { Self → ℕ };
+
+    ghost times: { Self → ℕ → ℕ → ℕ };
+
+    // Adds the value to what the row holds at the key.
+    fn gather(
+        &self,
+        alloc: Global,
+        row: &mut Vec<Option<Self::Item>>,
+        key: u32,
+        elem: Self::Item,
+    ) -> Result<(), AllocError>
+        requires key_is_in_row { key < length row.old.items }
+        requires row_is_good { IsGoodRow (ring self.now) row.old.items }
+        requires elem_is_good { IsGood (ring self.now) elem }
+        ensures { OnOk result (IsGathered (ring self.now) row.old.items row.new.items
+            (λ k. masked (ring self.now) (nat_eq key k) elem) 1) };
+
+    // Adds the values of the slots.
+    fn gather_slots(
+        &self,
+        alloc: Global,
+        row: &mut Vec<Option<Self::Item>>,
+        slots: &[Slot<Self::Item>],
+    ) -> Result<(), AllocError>
+        requires keys_are_in_row { AllElements (λ key. key < length row.old.items) key_of slots.now }
+        requires row_is_good { IsGoodRow (ring self.now) row.old.items }
+        requires slots_are_good { AllElements (IsGood (ring self.now)) elem_of slots.now }
+        ensures { OnOk result (IsGathered (ring self.now) row.old.items row.new.items
+            (λ k. total_at_key (ring self.now) key_of elem_of slots.now k) (length slots.now)) };
+
+    // Adds the products of the left slot with each of the right slots, in this order. Each is one step.
+    fn gather_products<L: Ledger>(
+        &self,
+        alloc: Global,
+        row: &mut Vec<Option<Self::Item>>,
+        left: &Slot<Self::Item>,
+        right: &[Slot<Self::Item>],
+        steps: &mut Steps<L>,
+    ) -> Result<(), AllocError>
+        requires row_has_size { length row.old.items ≡ size self.now }
+        requires row_is_good { IsGoodRow (ring self.now) row.old.items }
+        requires left_is_element { left.now.key < size self.now }
+        requires right_are_elements { AllElements (λ key. key < size self.now) key_of right.now }
+        requires left_is_good { IsGood (ring self.now) left.now.elem }
+        requires right_are_good { AllElements (IsGood (ring self.now)) elem_of right.now }
+        requires reaches_add_up { AllElements
+            (λ elem. (ring self.now).reach left.now.elem + (ring self.now).reach elem ≤ weight_bound)
+            elem_of right.now }
+        ensures gathered { OnOk result (IsGathered (ring self.now) row.old.items row.new.items
+            (λ k. total (ring self.now)
+            (λ slot. product_at (ring self.now) (times self.now) left.now slot k)
+            right.now)
+            (length right.now)) }
+        ensures cost { steps.new ≤ steps.old + length right.now };
+}
+
+impl<S: Semiring, M: Monoid> Gather for SparseKit<S, M> {
+    type Item = S::Elem;
+
+    ghost ring = { λ s. S.ring s.kit };
+
+    ghost size = { λ s. M.size s.keys };
+
+    ghost times = { λ s. M.mul s.keys };
+
+    fn gather(
+        &self,
+        alloc: Global,
+        row: &mut Vec<Option<S::Elem>>,
+        key: u32,
+        elem: S::Elem,
+    ) -> Result<(), AllocError> {
+        let place = key as usize;
+        let sum = match row[place].take() {
+            None => elem,
+            Some(held) => self.kit.add(alloc, &held, &elem)?,
+        };
+        row[place] = Some(sum);
+        Ok(())
+    }
+
+    fn gather_slots(
+        &self,
+        alloc: Global,
+        row: &mut Vec<Option<S::Elem>>,
+        slots: &[Slot<S::Elem>],
+    ) -> Result<(), AllocError> {
+        for slot in slots {
+            let elem = self.kit.copy(alloc, &slot.elem)?;
+            self.gather(alloc, row, slot.key, elem)?;
+        }
+        Ok(())
+    }
+
+    fn gather_products<L: Ledger>(
+        &self,
+        alloc: Global,
+        row: &mut Vec<Option<S::Elem>>,
+        left: &Slot<S::Elem>,
+        right: &[Slot<S::Elem>],
+        steps: &mut Steps<L>,
+    ) -> Result<(), AllocError> {
+        for slot in right {
+            let key = self.keys.mul(left.key, slot.key);
+            let elem = self.kit.mul(alloc, &left.elem, &slot.elem, steps)?;
+            self.gather(alloc, row, key, elem)?;
+        }
+        Ok(())
+    }
+}

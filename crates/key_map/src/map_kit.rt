@@ -1,0 +1,115 @@
+//! Maps from keys to values, whatever their form. The convolution is in specs/Convolution.antt.
+
+ghost use Rattle.std.specs.Prelude.{◌≡◌, ℕ, ◌+◌, ◌*◌, ◌<◌, ◌≤◌, nat_eq, IfOk};
+ghost use Rattle.semiring_kit.specs.Semiring.{IsGood, weight_bound};
+ghost use Rattle.semiring_kit.specs.Total.{masked};
+ghost use Rattle.key_map.specs.Convolution.{convolution};
+
+use monoid_kit::Monoid;
+use semiring_kit::Semiring;
+use std::alloc::{AllocError, Global};
+use std::sync::ledger::Ledger;
+use step_count::Steps;
+
+/// Maps from the elements of a monoid, the keys, to the elements of a semiring, the values.
+/// A map stands for a value per key; a key that it doesn't keep has zero.
+pub trait MapKit: Drop {
+    type Kit: Semiring;
+
+    type Keys: Monoid;
+
+    type Map: Send + Drop;
+
+    ghost kit: { Self → Self.Kit };
+
+    ghost keys: { Self → Self.Keys };
+
+    ghost fits: { Self → Self.Map → Type 0 };
+
+    ghost value_at: { Self → Self.Map → ℕ → Self.Kit.Elem };
+
+    ghost kept: { Self → Self.Map → ℕ };
+
+    /// The semiring of the values.
+    fn kit(&self) -> &Self::Kit
+        ensures { result.now ≡ kit self.now };
+
+    /// The monoid of the keys.
+    fn keys(&self) -> &Self::Keys
+        ensures { result.now ≡ keys self.now };
+
+    /// The map that keeps no key.
+    fn none(&self, alloc: Global) -> Result<Self::Map, AllocError>
+        ensures fits { IfOk result (fits self.now) }
+        ensures value { IfOk result (λ map. (k : ℕ)
+            → value_at self.now map k ≡ (Self.Kit.ring (kit self.now)).zero) }
+        ensures kept { IfOk result (λ map. kept self.now map ≡ 0) };
+
+    /// The map that has this value at this key, and zero elsewhere.
+    fn single(
+        &self,
+        alloc: Global,
+        key: u32,
+        elem: <Self::Kit as Semiring>::Elem,
+    ) -> Result<Self::Map, AllocError>
+        requires key_is_element { key < Self.Keys.size (keys self.now) }
+        requires elem_is_good { IsGood (Self.Kit.ring (kit self.now)) elem }
+        ensures fits { IfOk result (fits self.now) }
+        ensures value { IfOk result (λ map. (k : ℕ)
+            → value_at self.now map k ≡ masked (Self.Kit.ring (kit self.now)) (nat_eq key k) elem) }
+        ensures kept { IfOk result (λ map. kept self.now map ≤ 1) };
+
+    /// The map of the sums, key by key.
+    fn add(&self, alloc: Global, a: &Self::Map, b: &Self::Map) -> Result<Self::Map, AllocError>
+        requires left_fits { fits self.now a.now }
+        requires right_fits { fits self.now b.now }
+        ensures fits { IfOk result (fits self.now) }
+        ensures value { IfOk result (λ map. (k : ℕ)
+            → value_at self.now map k
+            ≡ (Self.Kit.ring (kit self.now)).add (value_at self.now a.now k) (value_at self.now b.now k)) }
+        ensures kept { IfOk result (λ map. kept self.now map ≤ kept self.now a.now + kept self.now b.now) };
+
+    /// The convolution: at a key, the sum over all pairs of keys whose product it is, of the products of their
+    /// values, the factors in this order. It takes one step at most for each pair of kept keys.
+    fn convolve<L: Ledger>(
+        &self,
+        alloc: Global,
+        a: &Self::Map,
+        b: &Self::Map,
+        steps: &mut Steps<L>,
+    ) -> Result<Self::Map, AllocError>
+        requires left_fits { fits self.now a.now }
+        requires right_fits { fits self.now b.now }
+        requires reaches_add_up { (j k : ℕ)
+            → (Self.Kit.ring (kit self.now)).reach (value_at self.now a.now j)
+            + (Self.Kit.ring (kit self.now)).reach (value_at self.now b.now k)
+            ≤ weight_bound }
+        ensures fits { IfOk result (fits self.now) }
+        ensures value { IfOk result (λ map. (k : ℕ)
+            → value_at self.now map k
+            ≡ convolution
+            (Self.Kit.ring (kit self.now))
+            (Self.Keys.size (keys self.now))
+            (Self.Keys.mul (keys self.now))
+            (value_at self.now a.now)
+            (value_at self.now b.now)
+            k) }
+        ensures cost { steps.new ≤ steps.old + kept self.now a.now * kept self.now b.now };
+
+    /// The value at a key.
+    fn get(
+        &self,
+        alloc: Global,
+        map: &Self::Map,
+        key: u32,
+    ) -> Result<<Self::Kit as Semiring>::Elem, AllocError>
+        requires fits { fits self.now map.now }
+        requires key_is_element { key < Self.Keys.size (keys self.now) }
+        ensures { IfOk result (λ elem. elem ≡ value_at self.now map.now key) };
+
+    ghost value_is_good: { (s : Self) (map : Self.Map) (k : ℕ)
+        → fits s map → IsGood (Self.Kit.ring (kit s)) (value_at s map k) };
+
+    ghost few_kept: { (s : Self) (map : Self.Map)
+        → fits s map → kept s map ≤ Self.Keys.size (keys s) };
+}

@@ -1,0 +1,110 @@
+//! Maps that keep a vector of slots, their keys strictly ascending. What they stand for is in specs/Slots.antt.
+
+ghost use Rattle.std.specs.Prelude.{length};
+
+use crate::gather::Gather;
+use crate::map_kit::MapKit;
+use crate::row::{empty_row, slots_of};
+use crate::slot::{Slot, find_slot};
+use monoid_kit::Monoid;
+use semiring_kit::Semiring;
+use std::alloc::{AllocError, Global};
+use std::sync::ledger::Ledger;
+use step_count::Steps;
+
+/// Maps that keep a slot for each key that has been given a value, by ascending key.
+/// Sums and convolutions are gathered in a row with a place for each key, so that each takes time and memory
+/// in proportion to the number of keys, besides its sums and products.
+#[derive(Drop)]
+pub struct SparseKit<S: Semiring, M: Monoid> {
+    pub kit: S,
+    pub keys: M,
+}
+
+impl<S: Semiring, M: Monoid> MapKit for SparseKit<S, M> {
+    ghost use Rattle.std.specs.Prelude.{length};
+    ghost use Rattle.key_map.specs.Slots.{value_in, FitsSlots};
+    ghost use Rattle.key_map.specs.SlotLaws.{value_in_is_good, few_slots_kept};
+
+    type Kit = S;
+
+    type Keys = M;
+
+    type Map = Vec<Slot<S::Elem>>;
+
+    ghost kit = { λ s. s.kit };
+
+    ghost keys = { λ s. s.keys };
+
+    ghost fits = { λ s map. FitsSlots (S.ring s.kit) 0 (M.size s.keys) map.items };
+
+    ghost value_at = { λ s map k. value_in (S.ring s.kit).zero map.items k };
+
+    ghost kept = { λ s map. length map.items };
+
+    ghost value_is_good = { λ s map k fits.
+        value_in_is_good (S.laws s.kit) 0 (M.size s.keys) map.items k fits };
+
+    ghost few_kept = { λ s map fits. few_slots_kept (S.ring s.kit) (M.size s.keys) map.items fits };
+
+    fn kit(&self) -> &S {
+        &self.kit
+    }
+
+    fn keys(&self) -> &M {
+        &self.keys
+    }
+
+    fn none(&self, alloc: Global) -> Result<Vec<Slot<S::Elem>>, AllocError> {
+        Ok(Vec::new(alloc))
+    }
+
+    fn single(
+        &self,
+        alloc: Global,
+        key: u32,
+        elem: S::Elem,
+    ) -> Result<Vec<Slot<S::Elem>>, AllocError> {
+        let mut slots = Vec::with_capacity(alloc, 1)?;
+        slots.push(Slot { key, elem })?;
+        Ok(slots)
+    }
+
+    fn add(
+        &self,
+        alloc: Global,
+        a: &Vec<Slot<S::Elem>>,
+        b: &Vec<Slot<S::Elem>>,
+    ) -> Result<Vec<Slot<S::Elem>>, AllocError> {
+        let mut row = empty_row(alloc, self.keys.size())?;
+        self.gather_slots(alloc, &mut row, a)?;
+        self.gather_slots(alloc, &mut row, b)?;
+        slots_of(alloc, row)
+    }
+
+    fn convolve<L: Ledger>(
+        &self,
+        alloc: Global,
+        a: &Vec<Slot<S::Elem>>,
+        b: &Vec<Slot<S::Elem>>,
+        steps: &mut Steps<L>,
+    ) -> Result<Vec<Slot<S::Elem>>, AllocError> {
+        let mut row = empty_row(alloc, self.keys.size())?;
+        for left in a {
+            self.gather_products(alloc, &mut row, left, b, steps)?;
+        }
+        slots_of(alloc, row)
+    }
+
+    fn get(
+        &self,
+        alloc: Global,
+        map: &Vec<Slot<S::Elem>>,
+        key: u32,
+    ) -> Result<S::Elem, AllocError> {
+        match find_slot(map, key) {
+            Some(slot) => self.kit.copy(alloc, &slot.elem),
+            None => self.kit.zero(alloc),
+        }
+    }
+}
