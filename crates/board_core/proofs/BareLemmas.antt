@@ -1,14 +1,17 @@
 -- Leaving out the values keeps what an offer and a claim look at, and what each change makes of the lists.
 use Rattle.std.proofs.Common.{◌≡◌, ℕ, ◌==◌, ◌∙◌, true, false, ◌&&◌, cond, List, [], ◌∷◌, ◌++◌, map, ap, sym, refl}
-use Rattle.std.specs.Prelude.{Some}
+use Rattle.std.specs.Prelude.{Some, None}
 use Rattle.std.proofs.lemmas.List.Folds.{list_all-map}
 use Rattle.interval_kit.specs.declared.piece.Piece.{Piece}
-use Rattle.board_core.specs.declared.event.Event.TheVariants as event
-use Rattle.board_core.specs.declared.event.Reply.TheVariants as reply
 use Rattle.board_core.specs.declared.taken.Taken.{Taken}
-use Rattle.board_core.specs.Board.{PlainBoard, plain, entry, piece_at, apart, is_clear, claims_clear, pair_from, first_pair, rest_from, without_pair, put_piece, put_claim, claim_of, without_claim, with_offer, with_claim, with_settle, with_put_back}
+use Rattle.board_core.specs.declared.taken.CoreOffered.{CoreOffered}
+use Rattle.board_core.specs.declared.taken.CoreOffered.TheVariants as offered
+use Rattle.board_core.specs.declared.taken.CoreClaimed.{CoreClaimed}
+use Rattle.board_core.specs.declared.taken.CoreClaimed.TheVariants as claimed
+use Rattle.board_core.specs.Calls.{Offers, Claims}
+use Rattle.board_core.specs.Board.{offer_entry, claim_entry, settle_entry, put_back_entry, PlainBoard, plain, piece_at, apart, is_clear, claims_clear, pair_from, first_pair, rest_from, without_pair, put_piece, put_claim, claim_of, without_claim, with_offer, with_claim, with_settle, with_put_back}
 use Rattle.board_core.specs.Replay.{gap, after}
-use Rattle.board_core.specs.Sound.{blank, bare}
+use Rattle.board_core.specs.Sound.{blank, bare, blank_offered, blank_claimed}
 use Rattle.board_core.proofs.OrderedLemmas.{map_put}
 use Rattle.board_core.proofs.PieceLemmas.{left_is, right_is}
 
@@ -55,27 +58,59 @@ module _ {W : Type 0} where
 
   -- each change without the values is the entry's
   module _ (b : PlainBoard W) where
-    pub bare_offer : (who : ℕ) (p : Piece W) → bare (with_offer b who p) ≡ after (bare b) (entry who (event.Offer p.lo p.hi) reply.Kept)
+    pub bare_offer : (who : ℕ) (p : Piece W) → bare (with_offer b who p) ≡ after (bare b) (offer_entry who p)
     bare_offer who p =
-        ap (λ held. plain b.rows b.room held b.claims (b.log ++ entry who (event.Offer p.lo p.hi) reply.Kept ∷ [])) (put_blank p b.held)
+        ap (λ held. plain b.rows b.room held b.claims (b.log ++ offer_entry who p ∷ [])) (put_blank p b.held)
 
-    pub bare_claim : (t : Taken W) → bare (with_claim b t) ≡ after (bare b) (entry t.who event.Claim (reply.Pair t.left.lo t.left.hi t.right.hi))
+    pub bare_claim : (t : Taken W) → bare (with_claim b t) ≡ after (bare b) (claim_entry t.who t)
     bare_claim t =
         ap (λ held. plain b.rows b.room held (put_claim (claim_of t) b.claims)
-        (b.log ++ entry t.who event.Claim (reply.Pair t.left.lo t.left.hi t.right.hi) ∷ [])) (without_blank b.held)
+        (b.log ++ claim_entry t.who t ∷ [])) (without_blank b.held)
 
     pub bare_settle : (t : Taken W) (value : W)
-        → bare (with_settle b t value) ≡ after (bare b) (entry t.who (event.Settle t.left.lo t.left.hi t.right.hi) reply.Kept)
+        → bare (with_settle b t value) ≡ after (bare b) (settle_entry t)
     bare_settle t value =
         ap (λ held. plain b.rows b.room held (without_claim (claim_of t) b.claims)
-        (b.log ++ entry t.who (event.Settle t.left.lo t.left.hi t.right.hi) reply.Kept ∷ []))
+        (b.log ++ settle_entry t ∷ []))
         (put_blank (piece_at t.left.lo t.right.hi value) b.held)
 
     pub bare_put_back : (t : Taken W) → t.left.hi ≡ t.right.lo
-        → bare (with_put_back b t) ≡ after (bare b) (entry t.who (event.PutBack t.left.lo t.left.hi t.right.hi) reply.Kept)
+        → bare (with_put_back b t) ≡ after (bare b) (put_back_entry t)
     bare_put_back t adjoins =
         ap (λ held. plain b.rows b.room held (without_claim (claim_of t) b.claims)
-        (b.log ++ entry t.who (event.PutBack t.left.lo t.left.hi t.right.hi) reply.Kept ∷ []))
+        (b.log ++ put_back_entry t ∷ []))
         (put_blank t.left (put_piece t.right b.held)
         ∙ ap (λ held. put_piece (blank t.left) held) (put_blank t.right b.held)
         ∙ ap (λ mid. put_piece (blank t.left) (put_piece (gap mid t.right.hi) (map blank b.held))) (sym adjoins))
+
+  none_from_blank : (p : Piece W) (qs : List (Piece W)) → pair_from p qs ≡ None → pair_from (blank p) (map blank qs) ≡ None
+  none_from_blank p [] none = refl
+  none_from_blank p (q ∷ qs) none =
+      (elim (p.hi == q.lo)
+      as (λ t. cond t (Some (both p q)) (pair_from q qs) ≡ None → cond t (Some (both_blank p q)) (pair_from (blank q) (map blank qs)) ≡ None)
+      [ true ↦ λ found. cc | false ↦ λ later. none_from_blank q qs later ])
+      none
+
+  pub none_blank : (held : List (Piece W)) → first_pair held ≡ None → first_pair (map blank held) ≡ None
+  none_blank [] none = refl
+  none_blank (p ∷ ps) none = none_from_blank p ps none
+
+  -- an answer is the same one without the values
+  module _ (b : PlainBoard W) (who : ℕ) (d : PlainBoard W) where
+    unchanged : d ≡ b → bare d ≡ bare b
+    unchanged same = ap (λ (m : PlainBoard W). bare m) same
+
+    pub offers_bare : (p : Piece W) (answer : CoreOffered W) → Offers b who p answer d → Offers (bare b) who (blank p) (blank_offered answer) (bare d)
+    offers_bare p offered.Kept step =
+        (clear_blank p.lo p.hi b ∙ step.0, step.1, ap (λ (m : PlainBoard W). bare m) step.2 ∙ bare_offer b who p)
+    offers_bare p (offered.Overlaps q) step =
+        (clear_blank p.lo p.hi b ∙ step.0, ap (λ (x : Piece W). blank x) step.1, unchanged step.2)
+    offers_bare p (offered.Full q) step =
+        (clear_blank p.lo p.hi b ∙ step.0, step.1, ap (λ (x : Piece W). blank x) step.2, unchanged step.3)
+
+    pub claims_bare : (answer : CoreClaimed W) → Claims b who answer d → Claims (bare b) who (blank_claimed answer) (bare d)
+    claims_bare (claimed.Pair t) step =
+        (step.0, pair_blank b.held t.left t.right step.1, step.2, ap (λ (m : PlainBoard W). bare m) step.3 ∙ bare_claim b t)
+    claims_bare claimed.NoPair step = (none_blank b.held step.0, unchanged step.1)
+    claims_bare claimed.Full step =
+        (both_blank step.0.0 step.0.1, pair_blank b.held step.0.0 step.0.1 step.1, step.2, unchanged step.3)

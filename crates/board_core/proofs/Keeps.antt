@@ -3,8 +3,6 @@
 use Rattle.std.proofs.Common.{◌≡◌, ℕ, ◌<◌, ◌≤◌, ◌∙◌, true, false, List, [], ◌∷◌, ◌++◌, length, ap, sym, refl, subst, arith}
 use Rattle.std.specs.Prelude.{Some, None, MatchOption}
 use Rattle.interval_kit.specs.declared.piece.Piece.{Piece}
-use Rattle.board_core.specs.declared.event.Event.TheVariants as event
-use Rattle.board_core.specs.declared.event.Reply.TheVariants as reply
 use Rattle.board_core.specs.declared.event.Logged.{Logged}
 use Rattle.board_core.specs.declared.taken.Claim.{Claim}
 use Rattle.board_core.specs.declared.taken.Taken.{Taken}
@@ -13,8 +11,8 @@ use Rattle.board_core.specs.declared.taken.CoreOffered.TheVariants as offered
 use Rattle.board_core.specs.declared.taken.CoreClaimed.{CoreClaimed}
 use Rattle.board_core.specs.declared.taken.CoreClaimed.TheVariants as claimed
 use Rattle.board_core.specs.Ordered.{Each}
-use Rattle.board_core.specs.Board.{PlainBoard, empty, entry, noted, free, is_clear, first_pair, IsClaim, piece_at, pair_of, put_piece, put_claim, claim_of, without_claim, without_pair, with_offer, with_claim, with_settle, with_put_back}
-use Rattle.board_core.specs.Calls.{Call, IsStep, Lead, Offers, Claims, OneAnswer, entry_made, offer, claim, settle, put_back}
+use Rattle.board_core.specs.Board.{offer_entry, claim_entry, settle_entry, put_back_entry, PlainBoard, empty, noted, free, is_clear, first_pair, IsClaim, piece_at, pair_of, put_piece, put_claim, claim_of, without_claim, without_pair, with_offer, with_claim, with_settle, with_put_back}
+use Rattle.board_core.specs.Calls.{Call, IsStep, Lead, Offers, Claims, IsDetermined, entry_made, offer, claim, settle, put_back}
 use Rattle.board_core.specs.Replay.{Bare, gap, after, MayFollow, claims_by, claims_of}
 use Rattle.board_core.specs.Sound.{bare, IsTidy, IsSound, IsSoundFor, HasStanding, Brings, EveryBoardIsSound}
 use Rattle.board_core.proofs.OrderedLemmas.{each_put}
@@ -56,14 +54,14 @@ module _ {W : Type 0} where
     pub sound_offer : (who : ℕ) (p : Piece W) → p.lo < p.hi → p.hi ≤ b.rows → is_clear p.lo p.hi b ≡ true → 1 ≤ free b
         → IsSound (with_offer b who p)
     sound_offer who p nonempty within clear room =
-        sound_noted (put_piece p b.held) b.claims (entry who (event.Offer p.lo p.hi) reply.Kept)
+        sound_noted (put_piece p b.held) b.claims (offer_entry who p)
         (tidy_offer b sound.tidy who p nonempty within clear room)
         (nonempty, within, (clear_blank p.lo p.hi b ∙ clear, room, refl))
         (bare_offer b who p)
 
     pub sound_claim : (t : Taken W) → first_pair b.held ≡ Some (t.left, t.right) → 2 ≤ free b → IsSound (with_claim b t)
     sound_claim t found room =
-        sound_noted (without_pair b.held) (put_claim (claim_of t) b.claims) (entry t.who event.Claim (reply.Pair t.left.lo t.left.hi t.right.hi))
+        sound_noted (without_pair b.held) (put_claim (claim_of t) b.claims) (claim_entry t.who t)
         (tidy_claim b sound.tidy t found room) (
           refl,
           pair_blank b.held t.left t.right found
@@ -76,7 +74,7 @@ module _ {W : Type 0} where
     pub sound_settle : (t : Taken W) (value : W) → IsClaim t b.claims → IsSound (with_settle b t value)
     sound_settle t value is_claim =
         sound_noted (put_piece (piece_at t.left.lo t.right.hi value) b.held) (without_claim (claim_of t) b.claims)
-        (entry t.who (event.Settle t.left.lo t.left.hi t.right.hi) reply.Kept)
+        (settle_entry t)
         (tidy_settle b sound.tidy t is_claim value)
         ((refl, is_claim.1), refl)
         (bare_settle b t value)
@@ -84,7 +82,7 @@ module _ {W : Type 0} where
     pub sound_put_back : (t : Taken W) → IsClaim t b.claims → IsSound (with_put_back b t)
     sound_put_back t is_claim =
         sound_noted (put_piece t.left (put_piece t.right b.held)) (without_claim (claim_of t) b.claims)
-        (entry t.who (event.PutBack t.left.lo t.left.hi t.right.hi) reply.Kept)
+        (put_back_entry t)
         (tidy_put_back b sound.tidy t is_claim)
         ((refl, is_claim.1), refl)
         (bare_put_back b t is_claim.0)
@@ -117,7 +115,7 @@ module _ {W : Type 0} where
   step_entry b (offer who p (offered.Full q)) d step = step.2.3
   step_entry b (claim who (claimed.Pair t)) d step =
       ap (λ (m : PlainBoard W). m.log) step.3
-      ∙ ap (λ n. b.log ++ entry n event.Claim (reply.Pair t.left.lo t.left.hi t.right.hi) ∷ []) step.0
+      ∙ ap (λ n. b.log ++ claim_entry n t ∷ []) step.0
   step_entry b (claim who claimed.NoPair) d step = step.1
   step_entry b (claim who claimed.Full) d step = step.3
   step_entry b (settle t value) d step = ap (λ (m : PlainBoard W). m.log) step.1
@@ -157,8 +155,8 @@ module _ {W : Type 0} where
   claims_one b who claimed.Full claimed.NoPair d m one two = absurd (let clash : Some one.0 ≡ None = sym one.1 ∙ two.0 in cc)
   claims_one b who claimed.Full claimed.Full d m one two = (refl, one.3 ∙ sym two.3)
 
-  pub one_answer : OneAnswer W
-  one_answer = record { to_offers = offers_one; to_claims = claims_one }
+  pub is_determined : IsDetermined W
+  is_determined = record { to_offers = offers_one; to_claims = claims_one }
 
   module _ (stands : ℕ → ℕ → W → Type 0) where
     stand_moved : (d m : PlainBoard W) → d ≡ m → Each (HasStanding stands) m.held → Each (HasStanding stands) d.held

@@ -3,15 +3,16 @@ use Rattle.std.proofs.Common.{◌≡◌, ◌≢◌, ℕ, ◌<◌, ◌≤◌, ◌
 use Rattle.std.specs.Prelude.{Some, None}
 use Rattle.std.specs.List.{list_any}
 use Rattle.interval_kit.specs.declared.piece.Piece.{Piece}
+use Rattle.board_core.specs.declared.taken.Taken.{Taken}
 use Rattle.board_core.specs.declared.taken.CoreClaimed.{CoreClaimed}
 use Rattle.board_core.specs.declared.taken.CoreClaimed.TheVariants as claimed
 use Rattle.board_core.specs.Ordered.{Each}
 use Rattle.board_core.specs.Board.{PlainBoard, pair_from, first_pair, is_same, claim_of}
-use Rattle.board_core.specs.Calls.{Claims, IsHandedOut}
+use Rattle.board_core.specs.Calls.{Claims, IsLowestPair, AnswersPlainly}
 use Rattle.board_core.specs.Places.{AreApart}
 use Rattle.board_core.specs.Sound.{IsSound}
 use Rattle.board_core.proofs.OrderedLemmas.{each_map, each_both}
-use Rattle.board_core.proofs.PieceLemmas.{both, left_is, pair_adjoins, open_put}
+use Rattle.board_core.proofs.PieceLemmas.{both, left_is, pair_adjoins, each_pair, open_put}
 use Rattle.board_core.proofs.PlaceLemmas.{held_apart, apart_rises, unlike}
 
 module _ {A : Type 0} (R : A → A → Type 0) where
@@ -95,15 +96,27 @@ module _ {W : Type 0} where
   pair_lowest [] left right far found = cc
   pair_lowest (p ∷ ps) left right far found = lowest_from p ps left right far found
 
+  pub is_lowest : (b : PlainBoard W) (t : Taken W) → IsSound b → first_pair b.held ≡ Some (both t.left t.right) → IsLowestPair b t
+  is_lowest b t sound found =
+      let parts : ((t.left.lo < t.left.hi) × (t.left.hi ≤ b.rows)) × ((t.right.lo < t.right.hi) × (t.right.hi ≤ b.rows)) =
+      each_pair b.held t.left t.right found (λ q. (q.lo < q.hi) × (q.hi ≤ b.rows)) sound.tidy.held_within in
+      record {
+        left_nonempty = parts.0.0;
+        adjoins = pair_adjoins b.held t.left t.right found;
+        right_nonempty = parts.1.0;
+        within = parts.1.1;
+        lowest = pair_lowest b.held t.left t.right (held_apart b sound.tidy) found;
+      }
+
   -- what a claim on a sound board answers, in plain words
-  pub claims_hand_out : (b : PlainBoard W) (who : ℕ) (answer : CoreClaimed W) (d : PlainBoard W) → IsSound b → Claims b who answer d
-      → IsHandedOut b.held d.claims answer
-  claims_hand_out b who (claimed.Pair t) d sound step = (
+  pub claims_plainly : (b : PlainBoard W) (who : ℕ) (answer : CoreClaimed W) (d : PlainBoard W) → IsSound b → Claims b who answer d
+      → AnswersPlainly b answer d
+  claims_plainly b who (claimed.Pair t) d sound step = (
+    is_lowest b t sound step.1,
     (
       pair_adjoins b.held t.left t.right step.1,
       ap (λ (m : PlainBoard W). list_any (λ c. is_same c (claim_of t)) m.claims) step.3 ∙ open_put (claim_of t) b.claims,
     ),
-    pair_lowest b.held t.left t.right (held_apart b sound.tidy) step.1,
   )
-  claims_hand_out b who claimed.NoPair d sound step = none_adjoin b.held (held_apart b sound.tidy) step.0
-  claims_hand_out b who claimed.Full d sound step = tt
+  claims_plainly b who claimed.NoPair d sound step = none_adjoin b.held (held_apart b sound.tidy) step.0
+  claims_plainly b who claimed.Full d sound step = tt

@@ -4,12 +4,10 @@ use Rattle.std.specs.Prelude.{Some}
 use Rattle.std.proofs.lemmas.Bool.Decides.{nat_tests}
 use Rattle.std.proofs.lemmas.List.Sums.{sum_by_push}
 use Rattle.interval_kit.specs.declared.piece.Piece.{Piece}
-use Rattle.board_core.specs.declared.event.Event.TheVariants as event
-use Rattle.board_core.specs.declared.event.Reply.TheVariants as reply
 use Rattle.board_core.specs.declared.event.Logged.{Logged}
 use Rattle.board_core.specs.declared.taken.Taken.{Taken}
 use Rattle.board_core.specs.Ordered.{Each, IsRisingBy}
-use Rattle.board_core.specs.Board.{PlainBoard, entry, piece_at, free, is_clear, held_clear, claims_clear, first_pair, put_piece, claim_of, is_same, without_claim, without_pair, IsClaim, with_offer, with_claim, with_settle, with_put_back}
+use Rattle.board_core.specs.Board.{offer_entry, claim_entry, settle_entry, put_back_entry, PlainBoard, piece_at, free, is_clear, held_clear, claims_clear, first_pair, put_piece, claim_of, is_same, without_claim, without_pair, IsClaim, with_offer, with_claim, with_settle, with_put_back}
 use Rattle.board_core.specs.Sound.{covers, held_at, claims_at, offers_at, offered_at, IsTidy}
 use Rattle.board_core.proofs.OrderedLemmas.{each_map, each_put, sum_put, length_put, rising_put, each_without, rising_without}
 use Rattle.board_core.proofs.PieceLemmas.{covers_joint, covers_first, covers_within, clear_sum, none_starts, sum_open, length_open, each_open, pair_adjoins, sum_pair, each_pair, each_without_pair, rising_without_pair}
@@ -66,16 +64,13 @@ module _ {W : Type 0} (b : PlainBoard W) (tidy : IsTidy b) where
         arith,
         sum_put (λ q. q.lo) p (λ q. covers row q.lo q.hi) b.held,
         tidy.covered row,
-        offers_push row b.log (entry who (event.Offer p.lo p.hi) reply.Kept),
+        offers_push row b.log (offer_entry who p),
       );
-      once = λ row. omega (arith, once_more row, offers_push row b.log (entry who (event.Offer p.lo p.hi) reply.Kept));
-      fits = omega (arith, room, log_length b.log (entry who (event.Offer p.lo p.hi) reply.Kept));
+      once = λ row. omega (arith, once_more row, offers_push row b.log (offer_entry who p));
+      fits = omega (arith, room, log_length b.log (offer_entry who p));
     }
 
   module _ (t : Taken W) (found : first_pair b.held ≡ Some (t.left, t.right)) (room : 2 ≤ free b) where
-    abbrev made : Logged
-    made = entry t.who event.Claim (reply.Pair t.left.lo t.left.hi t.right.hi)
-
     parts : ((t.left.lo < t.left.hi) × (t.left.hi ≤ b.rows)) × ((t.right.lo < t.right.hi) × (t.right.hi ≤ b.rows))
     parts = each_pair b.held t.left t.right found (λ q. (q.lo < q.hi) × (q.hi ≤ b.rows)) tidy.held_within
 
@@ -106,10 +101,10 @@ module _ {W : Type 0} (b : PlainBoard W) (tidy : IsTidy b) where
         joint row,
         sum_put (λ c. c.lo) (claim_of t) (λ c. covers row c.lo c.hi) b.claims,
         tidy.covered row,
-        offers_push row b.log made,
+        offers_push row b.log (claim_entry t.who t),
       );
-      once = λ row. omega (arith, tidy.once row, offers_push row b.log made);
-      fits = omega (arith, room, log_length b.log made, length_put (λ c. c.lo) (claim_of t) b.claims);
+      once = λ row. omega (arith, tidy.once row, offers_push row b.log (claim_entry t.who t));
+      fits = omega (arith, room, log_length b.log (claim_entry t.who t), length_put (λ c. c.lo) (claim_of t) b.claims);
     }
 
   module _ (t : Taken W) (is_claim : IsClaim t b.claims) where
@@ -124,9 +119,6 @@ module _ {W : Type 0} (b : PlainBoard W) (tidy : IsTidy b) where
     not_held row from to = omega (arith, claims_sum row, covers_within row t.left.lo t.right.hi from to, tidy.covered row, tidy.once row)
 
     module _ (value : W) where
-      abbrev settled : Logged
-      settled = entry t.who (event.Settle t.left.lo t.left.hi t.right.hi) reply.Kept
-
       abbrev whole : Piece W
       whole = piece_at t.left.lo t.right.hi value
 
@@ -138,13 +130,10 @@ module _ {W : Type 0} (b : PlainBoard W) (tidy : IsTidy b) where
         held_rises = rising_put (λ q. q.lo) whole b.held
             (no_piece_at t.left.lo (not_held t.left.lo (omega arith) (omega (arith, claim_within.0, claim_within.1)))) tidy.held_rises;
         claims_rise = rising_without (λ c. is_same c (claim_of t)) (λ c. c.lo) b.claims tidy.claims_rise;
-        covered = λ row. omega (arith, sum_put (λ q. q.lo) whole (λ q. covers row q.lo q.hi) b.held, claims_sum row, tidy.covered row, offers_push row b.log settled);
-        once = λ row. omega (arith, tidy.once row, offers_push row b.log settled);
-        fits = omega (arith, tidy.fits, log_length b.log settled, length_open (claim_of t) b.claims is_claim.1);
+        covered = λ row. omega (arith, sum_put (λ q. q.lo) whole (λ q. covers row q.lo q.hi) b.held, claims_sum row, tidy.covered row, offers_push row b.log (settle_entry t));
+        once = λ row. omega (arith, tidy.once row, offers_push row b.log (settle_entry t));
+        fits = omega (arith, tidy.fits, log_length b.log (settle_entry t), length_open (claim_of t) b.claims is_claim.1);
       }
-
-    abbrev put_back : Logged
-    put_back = entry t.who (event.PutBack t.left.lo t.left.hi t.right.hi) reply.Kept
 
     abbrev pub with_right : List (Piece W)
     with_right = put_piece t.right b.held
@@ -178,8 +167,8 @@ module _ {W : Type 0} (b : PlainBoard W) (tidy : IsTidy b) where
         halves row,
         claims_sum row,
         tidy.covered row,
-        offers_push row b.log put_back,
+        offers_push row b.log (put_back_entry t),
       );
-      once = λ row. omega (arith, tidy.once row, offers_push row b.log put_back);
-      fits = omega (arith, tidy.fits, log_length b.log put_back, length_open (claim_of t) b.claims is_claim.1);
+      once = λ row. omega (arith, tidy.once row, offers_push row b.log (put_back_entry t));
+      fits = omega (arith, tidy.fits, log_length b.log (put_back_entry t), length_open (claim_of t) b.claims is_claim.1);
     }

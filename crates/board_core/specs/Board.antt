@@ -43,7 +43,8 @@ without_claim claim claims = without (λ c. is_same c claim) claims
 
 module _ {W : Type 0} where
   abbrev pub plain : ℕ → ℕ → List (Piece W) → List Claim → List Logged → PlainBoard W
-  plain rows room held claims log = record { rows = rows; room = room; held = held; claims = claims; log = log }
+  plain rows room held claims log =
+      record { rows = rows; room = room; held = held; claims = claims; log = log }
 
   abbrev pub empty : ℕ → ℕ → PlainBoard W
   empty rows room = plain rows room [] [] []
@@ -92,7 +93,21 @@ module _ {W : Type 0} where
 
   -- the two pieces adjoin, and their claim is among the claims
   abbrev pub IsClaim : Taken W → List Claim → Type 0
-  IsClaim t claims = (t.left.hi ≡ t.right.lo) × IsTrue (list_any (λ c. is_same c (claim_of t)) claims)
+  IsClaim t claims =
+      (t.left.hi ≡ t.right.lo) × IsTrue (list_any (λ c. is_same c (claim_of t)) claims)
+
+  -- the entries of the calls that change the board
+  abbrev pub offer_entry : ℕ → Piece W → Logged
+  offer_entry who p = entry who (event.Offer p.lo p.hi) reply.Kept
+
+  abbrev pub claim_entry : ℕ → Taken W → Logged
+  claim_entry who t = entry who event.Claim (reply.Pair t.left.lo t.left.hi t.right.hi)
+
+  abbrev pub settle_entry : Taken W → Logged
+  settle_entry t = entry t.who (event.Settle t.left.lo t.left.hi t.right.hi) reply.Kept
+
+  abbrev pub put_back_entry : Taken W → Logged
+  put_back_entry t = entry t.who (event.PutBack t.left.lo t.left.hi t.right.hi) reply.Kept
 
   -- the same rows and room, with one entry more
   abbrev pub noted : PlainBoard W → List (Piece W) → List Claim → Logged → PlainBoard W
@@ -100,21 +115,21 @@ module _ {W : Type 0} where
 
   -- the board after an offer that is kept
   abbrev pub with_offer : PlainBoard W → ℕ → Piece W → PlainBoard W
-  with_offer b who p = noted b (put_piece p b.held) b.claims (entry who (event.Offer p.lo p.hi) reply.Kept)
+  with_offer b who p = noted b (put_piece p b.held) b.claims (offer_entry who p)
 
   -- the board after a claim that hands out the first pair
   abbrev pub with_claim : PlainBoard W → Taken W → PlainBoard W
-  with_claim b t = noted b (without_pair b.held) (put_claim (claim_of t) b.claims)
-      (entry t.who event.Claim (reply.Pair t.left.lo t.left.hi t.right.hi))
+  with_claim b t =
+      noted b (without_pair b.held) (put_claim (claim_of t) b.claims) (claim_entry t.who t)
 
   -- the board after the claim ended in a value for the joint interval
   abbrev pub with_settle : PlainBoard W → Taken W → W → PlainBoard W
-  with_settle b t value = noted b (put_piece (piece_at t.left.lo t.right.hi value) b.held)
-      (without_claim (claim_of t) b.claims)
-      (entry t.who (event.Settle t.left.lo t.left.hi t.right.hi) reply.Kept)
+  with_settle b t value =
+      noted b (put_piece (piece_at t.left.lo t.right.hi value) b.held)
+      (without_claim (claim_of t) b.claims) (settle_entry t)
 
   -- the board after the claim ended and both pieces came back
   abbrev pub with_put_back : PlainBoard W → Taken W → PlainBoard W
-  with_put_back b t = noted b (put_piece t.left (put_piece t.right b.held))
-      (without_claim (claim_of t) b.claims)
-      (entry t.who (event.PutBack t.left.lo t.left.hi t.right.hi) reply.Kept)
+  with_put_back b t =
+      noted b (put_piece t.left (put_piece t.right b.held))
+      (without_claim (claim_of t) b.claims) (put_back_entry t)

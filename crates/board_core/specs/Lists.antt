@@ -10,7 +10,8 @@ use Rattle.board_core.specs.Board.{plain}
 use Rattle.board_core.specs.Sound.{IsSound}
 
 -- the board is sound, and no call on it needs memory
-pub record IsCore {W : Type 0} (rows room : ℕ) (held : Vec (Piece W) Global) (claims : Vec Claim Global) (log : Vec Logged Global) : Type 0 where
+pub record IsCore {W : Type 0} (rows room : ℕ) (held : Vec (Piece W) Global)
+    (claims : Vec Claim Global) (log : Vec Logged Global) : Type 0 where
   pub held_room : room ≤ vec_capacity held
   pub claims_room : room ≤ vec_capacity claims
   pub log_room : room ≤ vec_capacity log

@@ -7,6 +7,7 @@ use Rattle.board_core.specs.declared.event.Reply.{Reply}
 use Rattle.board_core.specs.declared.event.Reply.TheVariants as reply
 use Rattle.board_core.specs.declared.event.Logged.{Logged}
 use Rattle.board_core.specs.declared.taken.Claim.{Claim}
+use Rattle.board_core.specs.declared.taken.Taken.{Taken}
 use Rattle.board_core.specs.declared.taken.CoreOffered.TheVariants as offered
 use Rattle.board_core.specs.declared.taken.CoreClaimed.TheVariants as claimed
 use Rattle.board_core.specs.Board.{PlainBoard, empty, piece_at, pair_of, claim_at, noted, put_piece, put_claim, without_pair, without_claim}
@@ -16,15 +17,21 @@ use Rattle.board_core.specs.Calls.{Call, IsStep, offer, claim, settle, put_back}
 abbrev pub gap : ℕ → ℕ → Piece (Unit {0})
 gap lo hi = piece_at lo hi tt
 
+-- two intervals that meet at `mid`
+abbrev pub gap_pair : ℕ → ℕ → ℕ → ℕ → Taken (Unit {0})
+gap_pair who lo mid hi = pair_of who (gap lo mid) (gap mid hi)
+
+-- a board without values
 abbrev pub Bare : Type 0
 Bare = PlainBoard (Unit {0})
 
 -- the call without values that makes an entry, where there is one
 abbrev pub entry_call : ℕ → Event → Reply → Option (Call (Unit {0}))
 entry_call who (event.Offer lo hi) reply.Kept = Some (offer who (gap lo hi) offered.Kept)
-entry_call who event.Claim (reply.Pair lo mid hi) = Some (claim who (claimed.Pair (pair_of who (gap lo mid) (gap mid hi))))
-entry_call who (event.Settle lo mid hi) reply.Kept = Some (settle (pair_of who (gap lo mid) (gap mid hi)) tt)
-entry_call who (event.PutBack lo mid hi) reply.Kept = Some (put_back (pair_of who (gap lo mid) (gap mid hi)))
+entry_call who event.Claim (reply.Pair lo mid hi) =
+    Some (claim who (claimed.Pair (gap_pair who lo mid hi)))
+entry_call who (event.Settle lo mid hi) reply.Kept = Some (settle (gap_pair who lo mid hi) tt)
+entry_call who (event.PutBack lo mid hi) reply.Kept = Some (put_back (gap_pair who lo mid hi))
 entry_call who event reply = None
 
 abbrev pub held_after : List (Piece (Unit {0})) → Event → List (Piece (Unit {0}))
@@ -34,9 +41,12 @@ held_after held (event.Settle lo mid hi) = put_piece (gap lo hi) held
 held_after held (event.PutBack lo mid hi) = put_piece (gap lo mid) (put_piece (gap mid hi) held)
 
 abbrev pub claims_by_event : List Claim → ℕ → Event → Reply → List Claim
-claims_by_event claims who event.Claim (reply.Pair lo mid hi) = put_claim (claim_at who lo mid hi) claims
-claims_by_event claims who (event.Settle lo mid hi) reply = without_claim (claim_at who lo mid hi) claims
-claims_by_event claims who (event.PutBack lo mid hi) reply = without_claim (claim_at who lo mid hi) claims
+claims_by_event claims who event.Claim (reply.Pair lo mid hi) =
+    put_claim (claim_at who lo mid hi) claims
+claims_by_event claims who (event.Settle lo mid hi) reply =
+    without_claim (claim_at who lo mid hi) claims
+claims_by_event claims who (event.PutBack lo mid hi) reply =
+    without_claim (claim_at who lo mid hi) claims
 claims_by_event claims who event reply = claims
 
 abbrev pub claims_after : List Claim → Logged → List Claim

@@ -7,8 +7,13 @@ use Rattle.board_core.specs.declared.event.Reply.{Reply}
 use Rattle.board_core.specs.declared.event.Reply.TheVariants as reply
 use Rattle.board_core.specs.declared.event.Logged.{Logged}
 use Rattle.board_core.specs.declared.taken.Claim.{Claim}
+use Rattle.board_core.specs.declared.taken.Taken.{Taken}
+use Rattle.board_core.specs.declared.taken.CoreOffered.{CoreOffered}
+use Rattle.board_core.specs.declared.taken.CoreOffered.TheVariants as offered
+use Rattle.board_core.specs.declared.taken.CoreClaimed.{CoreClaimed}
+use Rattle.board_core.specs.declared.taken.CoreClaimed.TheVariants as claimed
 use Rattle.board_core.specs.Ordered.{Each, IsRisingBy}
-use Rattle.board_core.specs.Board.{PlainBoard, plain, empty}
+use Rattle.board_core.specs.Board.{PlainBoard, plain, empty, pair_of}
 use Rattle.board_core.specs.Calls.{Call, Lead, offer, claim, settle, put_back}
 use Rattle.board_core.specs.Replay.{Bare, gap, replay, IsLegal}
 
@@ -39,6 +44,19 @@ module _ {W : Type 0} where
 
   abbrev pub bare : PlainBoard W → Bare
   bare b = plain b.rows b.room (map blank b.held) b.claims b.log
+
+  abbrev pub blank_pair : Taken W → Taken (Unit {0})
+  blank_pair t = pair_of t.who (blank t.left) (blank t.right)
+
+  abbrev pub blank_offered : CoreOffered W → CoreOffered (Unit {0})
+  blank_offered offered.Kept = offered.Kept
+  blank_offered (offered.Overlaps p) = offered.Overlaps (blank p)
+  blank_offered (offered.Full p) = offered.Full (blank p)
+
+  abbrev pub blank_claimed : CoreClaimed W → CoreClaimed (Unit {0})
+  blank_claimed (claimed.Pair t) = claimed.Pair (blank_pair t)
+  blank_claimed claimed.NoPair = claimed.NoPair
+  blank_claimed claimed.Full = claimed.Full
 
   pub record IsTidy (b : PlainBoard W) : Type 0 where
     -- each interval is nonempty and within the rows

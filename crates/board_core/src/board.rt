@@ -3,8 +3,8 @@
 
 ghost use Rattle.std.specs.Prelude.{◌≡◌, ◌+◌, ◌<◌, ◌≤◌, ◌++◌, ◌∷◌, [], IfOk};
 ghost use Rattle.std.specs.Vec.{vec_len, vec_capacity};
-ghost use Rattle.board_core.specs.Board.{empty, entry, free, claim_of, IsClaim, with_settle, with_put_back};
-ghost use Rattle.board_core.specs.Calls.{Offers, Claims, IsHandedOut};
+ghost use Rattle.board_core.specs.Board.{empty, free, claim_of, IsClaim, with_settle, with_put_back};
+ghost use Rattle.board_core.specs.Calls.{Offers, Claims, AnswersPlainly};
 ghost use Rattle.board_core.specs.Sound.{IsSound};
 
 use crate::event::{Event, Logged, Reply};
@@ -17,8 +17,8 @@ use std::marker::Model;
 #[cfg(test)]
 mod tests;
 
-/// Pieces that are held, claims on pairs that were handed out, and the log of the calls that changed it.
-/// A call after `new` takes no memory.
+/// Pieces that are held, claims for the pairs that were handed out, and the log of the calls that
+/// changed the board. A contract sees it as a `PlainBoard`. No call after `new` takes memory.
 #[derive(Drop)]
 pub struct Core<V> {
     rows: u32,
@@ -92,15 +92,15 @@ impl<V: Drop> Core<V> {
     }
 
     /// Holds the piece. Overlaps and Full hand it back, and the board is as before.
-    /// It looks at the neighbours of the piece's place, which it finds by halving; what is held above the place moves.
+    /// It finds the piece's place by halving, and looks at the neighbours alone.
+    /// What is held above the place then moves up by one.
     pub fn offer(&mut self, who: u32, piece: Piece<V>) -> CoreOffered<V>
         requires nonempty { piece.lo < piece.hi }
         requires within { piece.hi ≤ self.old.rows }
         ensures answer { Offers self.old who piece result self.new }
         ensures sound { IsSound self.new }
     {
-        let Piece { lo, hi, value: _ } = &piece;
-        let (lo, hi) = (*lo, *hi);
+        let (lo, hi) = (piece.lo, piece.hi);
         if !lies_clear(&self.held, lo, hi) || !lies_clear(&self.claims, lo, hi) {
             return CoreOffered::Overlaps(piece);
         }
@@ -108,16 +108,17 @@ impl<V: Drop> Core<V> {
             return CoreOffered::Full(piece);
         }
         put(&mut self.held, piece);
-        append(&mut self.log, who, Event::Offer { lo, hi }, Reply::Kept);
+        let (event, reply) = (Event::Offer { lo, hi }, Reply::Kept);
+        append(&mut self.log, Logged { who, event, reply });
         CoreOffered::Kept
     }
 
-    /// Hands out the adjacent pair of held pieces that begins lowest. Both leave the held ones, and their joint
-    /// interval is claimed until it is settled or put back. NoPair and Full leave the board as before.
-    /// It walks the held pieces once, from the lowest.
+    /// Hands out the adjacent pair of held pieces that begins lowest. Both leave the held ones,
+    /// and their joint interval is claimed until the pair is settled or put back.
+    /// NoPair and Full leave the board as before. It walks over the held pieces once.
     pub fn claim(&mut self, who: u32) -> CoreClaimed<V>
         ensures answer { Claims self.old who result self.new }
-        ensures handed_out { IsHandedOut self.old.held self.new.claims result }
+        ensures plainly { AnswersPlainly self.old result self.new }
         ensures sound { IsSound self.new }
     {
         let Some(at) = pair_place(&self.held) else {
@@ -129,17 +130,13 @@ impl<V: Drop> Core<V> {
         let (left, right) = take_pair(&mut self.held, at);
         let (lo, mid, hi) = (left.lo, left.hi, right.hi);
         put(&mut self.claims, Claim { who, lo, mid, hi });
-        append(
-            &mut self.log,
-            who,
-            Event::Claim,
-            Reply::Pair { lo, mid, hi },
-        );
+        let (event, reply) = (Event::Claim, Reply::Pair { lo, mid, hi });
+        append(&mut self.log, Logged { who, event, reply });
         CoreClaimed::Pair(Taken { who, left, right })
     }
 
     /// Ends the claim, and holds the joint interval with the value.
-    /// The claim and the place are found by halving; what stands above them moves.
+    /// It finds the claim and the place by halving; what stands above them moves by one.
     pub fn settle(&mut self, taken: Taken<V>, value: V)
         requires is_claim { IsClaim taken self.old.claims }
         ensures settled { self.new ≡ with_settle self.old taken value }
@@ -149,16 +146,12 @@ impl<V: Drop> Core<V> {
         let Claim { who, lo, mid, hi } = claim;
         drop_claim(&mut self.claims, claim);
         put(&mut self.held, Piece { lo, hi, value });
-        append(
-            &mut self.log,
-            who,
-            Event::Settle { lo, mid, hi },
-            Reply::Kept,
-        );
+        let (event, reply) = (Event::Settle { lo, mid, hi }, Reply::Kept);
+        append(&mut self.log, Logged { who, event, reply });
     }
 
     /// Ends the claim, and holds both pieces again.
-    /// The claim and the places are found by halving; what stands above them moves.
+    /// It finds the claim and the places by halving; what stands above them moves by one.
     pub fn put_back(&mut self, taken: Taken<V>)
         requires is_claim { IsClaim taken self.old.claims }
         ensures put_back { self.new ≡ with_put_back self.old taken }
@@ -166,20 +159,12 @@ impl<V: Drop> Core<V> {
     {
         let claim = claim_of(&taken);
         let Claim { who, lo, mid, hi } = claim;
-        let Taken {
-            who: _,
-            left,
-            right,
-        } = taken;
+        let (left, right) = (taken.left, taken.right);
         drop_claim(&mut self.claims, claim);
         put(&mut self.held, right);
         put(&mut self.held, left);
-        append(
-            &mut self.log,
-            who,
-            Event::PutBack { lo, mid, hi },
-            Reply::Kept,
-        );
+        let (event, reply) = (Event::PutBack { lo, mid, hi }, Reply::Kept);
+        append(&mut self.log, Logged { who, event, reply });
     }
 }
 
@@ -194,13 +179,13 @@ fn claim_of<V>(taken: &Taken<V>) -> Claim
     }
 }
 
-fn append(log: &mut Vec<Logged>, who: u32, event: Event, reply: Reply)
+fn append(log: &mut Vec<Logged>, logged: Logged)
     requires room { vec_len log.old < vec_capacity log.old }
-    ensures items { log.new.items ≡ log.old.items ++ entry who event reply ∷ [] }
+    ensures items { log.new.items ≡ log.old.items ++ logged ∷ [] }
     ensures len { vec_len log.new ≡ vec_len log.old + 1 }
     ensures capacity { vec_capacity log.old ≤ vec_capacity log.new }
 {
-    let Ok(()) = log.push(Logged { who, event, reply }) else {
+    let Ok(()) = log.push(logged) else {
         unreachable!()
     };
 }

@@ -2,7 +2,7 @@
 //! in the same words, so that each of them is one of the calls of which this speaks.
 
 ghost use Rattle.std.specs.Prelude.{◌≡◌, ℕ};
-ghost use Rattle.board_core.specs.Calls.{OneAnswer};
+ghost use Rattle.board_core.specs.Calls.{IsDetermined};
 ghost use Rattle.board_core.specs.Sound.{EveryBoardIsSound};
 
 /// A value of which it is said when it stands for the rows of an interval.
@@ -14,6 +14,6 @@ pub trait Standing {
 /// Carries two statements and does nothing. Each call has one answer and one board after it; and a
 /// board to which any list of calls led is sound, and holds standing values if it was given such.
 pub fn every_board_is_sound<V: Standing>()
-    ensures one_answer { OneAnswer V }
+    ensures determined { IsDetermined V }
     ensures sound { EveryBoardIsSound V.stands }
 {}

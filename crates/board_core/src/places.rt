@@ -1,5 +1,6 @@
 //! Lists of intervals in ascending order: where one stands, what lies clear of them, and puts and
-//! takes that keep the order. A place is found by halving; a put or a take then moves what stands above it.
+//! takes that keep the order. A place is found by halving.
+//! A put or a take then moves what stands above the place.
 
 ghost use Rattle.std.specs.Prelude.{◌≡◌, ◌+◌, ◌<◌, ◌≤◌, ℕ, IsTrue, IsSome, IfSome, IfNone, length};
 ghost use Rattle.std.specs.List.{list_all, list_any};
@@ -103,7 +104,7 @@ pub(crate) fn drop_claim(claims: &mut Vec<Claim>, claim: Claim)
 
 /// Where the left one of the first two neighbours stands of which one ends where the other begins.
 pub(crate) fn pair_place<V>(held: &[Piece<V>]) -> Option<usize>
-    ensures pair { IfSome result (λ at. (at ≡ pair_index held.now) × (at + 1 < length held.now)) }
+    ensures pair { IfSome result (λ at. at ≡ pair_index held.now) }
     ensures found { IsSome result → IsSome (first_pair held.now) }
     ensures no_pair { IfNone result (first_pair held.now ≡ None) }
 {

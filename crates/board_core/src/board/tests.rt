@@ -1,9 +1,10 @@
 //! Worked rows, and random calls beside a plain list of rows that knows who has each row.
 
-ghost use Rattle.std.specs.Prelude.{◌↔◌, IsTrue};
+ghost use Rattle.std.specs.Prelude.{◌≡◌, ◌↔◌, ◌+◌, IsTrue};
 ghost use Rattle.board_core.specs.Board.{IsClaim};
 
 use super::*;
+use crate::law::{Standing, every_board_is_sound};
 use interval_kit::Piece;
 use std::process::Abort;
 use std::test::Fail;
@@ -35,13 +36,7 @@ fn worth(lo: u32, hi: u32) -> u32 {
 fn stands(board: &Core<u32>, taken: &Taken<u32>) -> bool
     ensures { IsTrue result ↔ IsClaim taken.now board.now.claims }
 {
-    let claim = Claim {
-        who: taken.who,
-        lo: taken.left.lo,
-        mid: taken.left.hi,
-        hi: taken.right.hi,
-    };
-    taken.left.hi == taken.right.lo && board.claims.contains(&claim)
+    taken.left.hi == taken.right.lo && board.claims.contains(&claim_of(taken))
 }
 
 /// A board with the pairs that it handed out.
@@ -172,6 +167,57 @@ fn worked_rows(rt: HostRuntime) -> Result<(), Fail> {
             );
         }
     }
+    Ok(())
+}
+
+// How many rows an interval has.
+struct Size(u32);
+
+impl Standing for Size {
+    ghost stands = { λ lo hi size. lo + size.0 ≡ hi };
+}
+
+#[test]
+fn lists_and_log_of_a_board(rt: HostRuntime) -> Result<(), Fail> {
+    let mut asked = empty(&rt, 4, 16)?;
+    let steps = [
+        Ask::Offer { lo: 1, hi: 2 },
+        Ask::Offer { lo: 0, hi: 1 },
+        Ask::Offer { lo: 3, hi: 4 },
+        Ask::Claim,
+        Ask::PutBack { back: 0 },
+        Ask::Claim,
+    ];
+    for ask in steps {
+        let _ = asked.ask(&rt, ask)?;
+    }
+    let (lo, mid, hi) = (0, 1, 2);
+    let pair = Reply::Pair { lo, mid, hi };
+    let log = [
+        (1, Event::Offer { lo: 1, hi: 2 }, Reply::Kept),
+        (0, Event::Offer { lo: 0, hi: 1 }, Reply::Kept),
+        (3, Event::Offer { lo: 3, hi: 4 }, Reply::Kept),
+        (7, Event::Claim, pair),
+        (7, Event::PutBack { lo, mid, hi }, Reply::Kept),
+        (7, Event::Claim, pair),
+    ]
+    .map(|(who, event, reply)| Logged { who, event, reply });
+    assert_eq!(rt; asked.board.log(), log.as_slice());
+    let lists = asked.board.into_lists();
+    let held: Vec<(u32, u32)> = lists.held.iter().map(|p| (p.lo, p.hi)).collect(rt.alloc())?;
+    assert_eq!(rt; held.as_slice(), [(3, 4)].as_slice());
+    assert_eq!(rt;
+        lists.claimed.as_slice(),
+        [Claim {
+            who: 7,
+            lo,
+            mid,
+            hi
+        }]
+        .as_slice()
+    );
+    assert_eq!(rt; lists.log.as_slice(), log.as_slice());
+    every_board_is_sound::<Size>();
     Ok(())
 }
 

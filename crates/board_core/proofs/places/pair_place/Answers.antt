@@ -3,11 +3,9 @@ use Rattle.board_core.proofs.PlaceLemmas.{walk_on, walk_found, pair_none}
 use Rattle.board_core.proofs.places.pair_place.Goals as goal
 
 pub returns-then-held-at-clause-pair : goal.returns-then-held-at-clause-pair
-returns-then-held-at-clause-pair g c = (
-  (walk_found c.args.held.now c.loop-at.at c.index-held-at.result c.index-held-at-in-loop-at.result (omega arith) (omega arith)
-      c.index-held-at.is c.index-held-at-in-loop-at.is c.if-held-at.true c.loop-at.invariant).0,
-  omega arith,
-)
+returns-then-held-at-clause-pair g c =
+    (walk_found c.args.held.now c.loop-at.at c.index-held-at.result c.index-held-at-in-loop-at.result (omega arith) (omega arith)
+    c.index-held-at.is c.index-held-at-in-loop-at.is c.if-held-at.true c.loop-at.invariant).0
 
 pub returns-then-held-at-clause-found : goal.returns-then-held-at-clause-found
 returns-then-held-at-clause-found g c =

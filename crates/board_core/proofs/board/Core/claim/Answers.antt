@@ -5,7 +5,7 @@ use Rattle.board_core.specs.declared.taken.CoreClaimed.TheVariants as claimed
 use Rattle.board_core.specs.Board.{PlainBoard, plain, first_pair, pair_of}
 use Rattle.board_core.specs.Sound.{IsSound}
 use Rattle.board_core.proofs.Keeps.{claims_sound}
-use Rattle.board_core.proofs.MeaningLemmas.{claims_hand_out}
+use Rattle.board_core.proofs.MeaningLemmas.{claims_plainly}
 use Rattle.board_core.proofs.PlaceLemmas.{some_is}
 use Rattle.board_core.proofs.board.Core.claim.Goals as goal
 
@@ -19,19 +19,19 @@ returns-then-free-lt2-clause-answer g c =
 pub returns-in_default-clause-answer : goal.returns-in_default-clause-answer
 returns-in_default-clause-answer g c = search rules
 
-pub returns-in_default-clause-handed_out : goal.returns-in_default-clause-handed_out
-returns-in_default-clause-handed_out g c =
+pub returns-in_default-clause-plainly : goal.returns-in_default-clause-plainly
+returns-in_default-clause-plainly g c =
     let P : PlainBoard g.row.V.Denot → Type 0 = λ b. IsSound b in
-    claims_hand_out c.args.self.now c.args.who claimed.NoPair c.args.self.now (subst P c.self.view_is c.self.invariant.sound)
+    claims_plainly c.args.self.now c.args.who claimed.NoPair c.args.self.now (subst P c.self.view_is c.self.invariant.sound)
     (returns-in_default-clause-answer g c)
 
 pub returns-clause-answer : goal.returns-clause-answer
 returns-clause-answer g c = search rules
 
-pub returns-clause-handed_out : goal.returns-clause-handed_out
-returns-clause-handed_out g c =
+pub returns-clause-plainly : goal.returns-clause-plainly
+returns-clause-plainly g c =
     let P : PlainBoard g.row.V.Denot → Type 0 = λ b. IsSound b in
-    claims_hand_out c.args.self.now c.args.who (claimed.Pair (pair_of c.args.who c.take_pair-left.result.0 c.take_pair-left.result.1))
+    claims_plainly c.args.self.now c.args.who (claimed.Pair (pair_of c.args.who c.take_pair-left.result.0 c.take_pair-left.result.1))
     (plain c.self.inside.rows c.self.inside.room c.take_pair-left.new.held.items c.put.new.intervals.items c.append.new.log.items)
     (subst P c.self.view_is c.self.invariant.sound) (returns-clause-answer g c)
 
