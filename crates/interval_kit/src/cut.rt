@@ -46,7 +46,8 @@ impl Cut {
 }
 
 /// The cut of `0..rows` with a bound at every `leaf`-th row, and one at `rows`.
-/// The last leaf may be shorter. With no rows there is the bound 0 alone. It takes memory for the bounds.
+/// The last leaf may be shorter. With no rows there is the bound 0 alone.
+/// It takes memory for the bounds.
 pub fn cut_of(alloc: Global, rows: u32, leaf: u32) -> Result<Cut, AllocError>
     requires nonempty { 1 ≤ leaf }
     ensures bounds { IfOk result (λ cut. cut ≡ even_cut rows leaf) }

@@ -1,0 +1,41 @@
+use Rattle.std.proofs.Common.{rules, arith, List, sym, subst}
+use Rattle.interval_kit.specs.declared.piece.Piece.{Piece}
+use Rattle.board_core.specs.declared.taken.Claim.{Claim}
+use Rattle.board_core.specs.declared.taken.CoreOffered.TheVariants as offered
+use Rattle.board_core.specs.Board.{PlainBoard, plain}
+use Rattle.board_core.specs.Places.{AreApart}
+use Rattle.board_core.specs.Sound.{IsSound}
+use Rattle.board_core.proofs.Keeps.{offers_sound}
+use Rattle.board_core.proofs.PlaceLemmas.{held_apart, claims_apart}
+use Rattle.board_core.proofs.board.Core.offer.Goals as goal
+
+pub lies_clear-requires-clause-apart : goal.lies_clear-requires-clause-apart
+lies_clear-requires-clause-apart g c =
+    let P : List (Piece g.row.V.Denot) → Type 0 = λ xs. AreApart (λ p. p.lo) (λ p. p.hi) xs in
+    subst P (sym c.deref.ensures.value)
+    (held_apart (plain c.self.inside.rows c.self.inside.room c.self.inside.held.items c.self.inside.claims.items c.self.inside.log.items) c.self.invariant.sound.tidy)
+
+pub lies_clear-requires-else-not-lies_clear-clause-apart : goal.lies_clear-requires-else-not-lies_clear-clause-apart
+lies_clear-requires-else-not-lies_clear-clause-apart g c =
+    let P : List Claim → Type 0 = λ xs. AreApart (λ d. d.lo) (λ d. d.hi) xs in
+    subst P (sym c.deref-else-not-lies_clear.ensures.value)
+    (claims_apart (plain c.self.inside.rows c.self.inside.room c.self.inside.held.items c.self.inside.claims.items c.self.inside.log.items) c.self.invariant.sound.tidy)
+
+pub returns-clause-answer : goal.returns-clause-answer
+returns-clause-answer g c = search rules
+
+pub returns-clause-sound : goal.returns-clause-sound
+returns-clause-sound g c =
+    let P : PlainBoard g.row.V.Denot → Type 0 = λ b. IsSound b in
+    offers_sound c.args.self.now (subst P c.self.view_is c.self.invariant.sound) c.args.who c.args.piece offered.Kept
+    (plain c.self.inside.rows c.self.inside.room c.put.new.intervals.items c.self.inside.claims.items c.append.new.log.items)
+    c.requires.nonempty c.requires.within (returns-clause-answer g c)
+
+pub invariant_of-self : goal.invariant_of-self
+invariant_of-self g c = record {
+  held_room = omega (arith, c.put.ensures.capacity, c.self.invariant.held_room);
+  claims_room = c.self.invariant.claims_room;
+  log_room = omega (arith, c.append.ensures.capacity, c.self.invariant.log_room);
+  entries = omega (arith, c.put.ensures.len, c.append.ensures.len, c.self.invariant.entries);
+  sound = returns-clause-sound g c;
+}

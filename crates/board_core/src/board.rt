@@ -1,0 +1,191 @@
+//! The board: its lists, and the calls on it. Each call is what specs/Calls.antt says.
+//! The lists are in ascending order and have all their room from the start.
+
+ghost use Rattle.std.specs.Prelude.{◌≡◌, ◌+◌, ◌<◌, ◌≤◌, ◌++◌, ◌∷◌, [], IfOk};
+ghost use Rattle.std.specs.Vec.{vec_len, vec_capacity};
+ghost use Rattle.board_core.specs.Board.{empty, free, claim_of, IsClaim, with_settle, with_put_back};
+ghost use Rattle.board_core.specs.Calls.{Offers, Claims, AnswersPlainly};
+ghost use Rattle.board_core.specs.Sound.{IsSound};
+
+use crate::event::{Event, Logged, Reply};
+use crate::places::{drop_claim, lies_clear, pair_place, put, take_pair};
+use crate::taken::{Claim, CoreClaimed, CoreOffered, Lists, Taken};
+use interval_kit::Piece;
+use std::alloc::{AllocError, Global};
+use std::marker::Model;
+
+#[cfg(test)]
+mod tests;
+
+/// Pieces that are held, claims for the pairs that were handed out, and the log of the calls that
+/// changed the board. A contract sees it as a `PlainBoard`. No call after `new` takes memory.
+#[derive(Drop)]
+pub struct Core<V> {
+    rows: u32,
+    room: u32,
+    held: Vec<Piece<V>>,
+    claims: Vec<Claim>,
+    log: Vec<Logged>,
+}
+
+impl<V> Model for Core<V> {
+    ghost use Rattle.board_core.specs.Board.{PlainBoard, plain};
+    ghost use Rattle.board_core.specs.Lists.{IsCore};
+
+    ghost Value = { PlainBoard V };
+
+    ghost view = { λ c. plain c.rows c.room c.held.items c.claims.items c.log.items };
+
+    ghost invariant = { λ c. IsCore c.rows c.room c.held c.claims c.log };
+}
+
+impl<V> Core<V> {
+    /// The calls that changed the board, from the first to the last. It takes no memory.
+    pub fn log(&self) -> &[Logged]
+        ensures log { result.now ≡ self.now.log }
+        ensures sound { IsSound self.now }
+    {
+        &self.log
+    }
+
+    /// The board's own lists. It takes no memory.
+    pub fn into_lists(self) -> Lists<V>
+        ensures held { result.held.items ≡ self.held }
+        ensures claimed { result.claimed.items ≡ self.claims }
+        ensures log { result.log.items ≡ self.log }
+        ensures sound { IsSound self }
+    {
+        let Core {
+            rows: _,
+            room: _,
+            held,
+            claims,
+            log,
+        } = self;
+        Lists {
+            held,
+            claimed: claims,
+            log,
+        }
+    }
+
+    fn free(&self) -> usize
+        ensures { result ≡ free self.now }
+    {
+        self.room as usize - (self.log.len() + self.claims.len())
+    }
+}
+
+impl<V: Drop> Core<V> {
+    /// An empty board for the rows `0..rows`, whose log has room for `room` entries.
+    /// It takes the memory of all later calls: `room` pieces, claims and entries.
+    pub fn new(alloc: Global, rows: u32, room: u32) -> Result<Core<V>, AllocError>
+        ensures empty { IfOk result (λ board. board ≡ empty rows room) }
+    {
+        Ok(Core {
+            rows,
+            room,
+            held: Vec::with_capacity(alloc, room as usize)?,
+            claims: Vec::with_capacity(alloc, room as usize)?,
+            log: Vec::with_capacity(alloc, room as usize)?,
+        })
+    }
+
+    /// Holds the piece. Overlaps and Full hand it back, and the board is as before.
+    /// It finds the piece's place by halving, and looks at the neighbours alone.
+    /// What is held above the place then moves up by one.
+    pub fn offer(&mut self, who: u32, piece: Piece<V>) -> CoreOffered<V>
+        requires nonempty { piece.lo < piece.hi }
+        requires within { piece.hi ≤ self.old.rows }
+        ensures answer { Offers self.old who piece result self.new }
+        ensures sound { IsSound self.new }
+    {
+        let (lo, hi) = (piece.lo, piece.hi);
+        if !lies_clear(&self.held, lo, hi) || !lies_clear(&self.claims, lo, hi) {
+            return CoreOffered::Overlaps(piece);
+        }
+        if self.free() == 0 {
+            return CoreOffered::Full(piece);
+        }
+        put(&mut self.held, piece);
+        let (event, reply) = (Event::Offer { lo, hi }, Reply::Kept);
+        append(&mut self.log, Logged { who, event, reply });
+        CoreOffered::Kept
+    }
+
+    /// Hands out the adjacent pair of held pieces that begins lowest. Both leave the held ones,
+    /// and their joint interval is claimed until the pair is settled or put back.
+    /// NoPair and Full leave the board as before. It walks over the held pieces once.
+    pub fn claim(&mut self, who: u32) -> CoreClaimed<V>
+        ensures answer { Claims self.old who result self.new }
+        ensures plainly { AnswersPlainly self.old result self.new }
+        ensures sound { IsSound self.new }
+    {
+        let Some(at) = pair_place(&self.held) else {
+            return CoreClaimed::NoPair;
+        };
+        if self.free() < 2 {
+            return CoreClaimed::Full;
+        }
+        let (left, right) = take_pair(&mut self.held, at);
+        let (lo, mid, hi) = (left.lo, left.hi, right.hi);
+        put(&mut self.claims, Claim { who, lo, mid, hi });
+        let (event, reply) = (Event::Claim, Reply::Pair { lo, mid, hi });
+        append(&mut self.log, Logged { who, event, reply });
+        CoreClaimed::Pair(Taken { who, left, right })
+    }
+
+    /// Ends the claim, and holds the joint interval with the value.
+    /// It finds the claim and the place by halving; what stands above them moves by one.
+    pub fn settle(&mut self, taken: Taken<V>, value: V)
+        requires is_claim { IsClaim taken self.old.claims }
+        ensures settled { self.new ≡ with_settle self.old taken value }
+        ensures sound { IsSound self.new }
+    {
+        let claim = claim_of(&taken);
+        let Claim { who, lo, mid, hi } = claim;
+        drop_claim(&mut self.claims, claim);
+        put(&mut self.held, Piece { lo, hi, value });
+        let (event, reply) = (Event::Settle { lo, mid, hi }, Reply::Kept);
+        append(&mut self.log, Logged { who, event, reply });
+    }
+
+    /// Ends the claim, and holds both pieces again.
+    /// It finds the claim and the places by halving; what stands above them moves by one.
+    pub fn put_back(&mut self, taken: Taken<V>)
+        requires is_claim { IsClaim taken self.old.claims }
+        ensures put_back { self.new ≡ with_put_back self.old taken }
+        ensures sound { IsSound self.new }
+    {
+        let claim = claim_of(&taken);
+        let Claim { who, lo, mid, hi } = claim;
+        let (left, right) = (taken.left, taken.right);
+        drop_claim(&mut self.claims, claim);
+        put(&mut self.held, right);
+        put(&mut self.held, left);
+        let (event, reply) = (Event::PutBack { lo, mid, hi }, Reply::Kept);
+        append(&mut self.log, Logged { who, event, reply });
+    }
+}
+
+fn claim_of<V>(taken: &Taken<V>) -> Claim
+    ensures { result ≡ claim_of taken.now }
+{
+    Claim {
+        who: taken.who,
+        lo: taken.left.lo,
+        mid: taken.left.hi,
+        hi: taken.right.hi,
+    }
+}
+
+fn append(log: &mut Vec<Logged>, logged: Logged)
+    requires room { vec_len log.old < vec_capacity log.old }
+    ensures items { log.new.items ≡ log.old.items ++ logged ∷ [] }
+    ensures len { vec_len log.new ≡ vec_len log.old + 1 }
+    ensures capacity { vec_capacity log.old ≤ vec_capacity log.new }
+{
+    let Ok(()) = log.push(logged) else {
+        unreachable!()
+    };
+}
