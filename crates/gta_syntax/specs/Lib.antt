@@ -1,0 +1,4 @@
+pub mod Symbols
+pub mod Parts
+pub mod Grammar
+pub mod Rules
