@@ -2,3 +2,6 @@ pub mod Symbols
 pub mod Parts
 pub mod Grammar
 pub mod Rules
+pub mod SpecText
+pub mod Refusals
+pub mod Faults

@@ -5,10 +5,13 @@ mod fault;
 mod line_rules;
 mod measures;
 mod parts;
+mod reading;
 mod rules;
 mod symbols;
 
+pub use fault::SpecFault;
 pub use parts::{
     AtomPart, CasePart, Check, Cmp, ColumnItem, GoalPart, MeasurePart, Part, PartKind, PickPart,
     Spec, TablePart, TermPart, TestPart, TimesPart,
 };
+pub use reading::{Read, read_spec};

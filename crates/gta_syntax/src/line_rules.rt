@@ -1,6 +1,10 @@
 //! Reading a whole line: each function gives what the definition of its name in specs/Rules.antt
 //! gives. What the grammar says of a line is the clause of `part_of`.
 ghost use Rattle.std.specs.Prelude.{◌≡◌, codes, map};
+ghost use Rattle.std.specs.Prelude.{List, Some};
+ghost use Rattle.gta_syntax.specs.Symbols.{Symbol};
+ghost use Rattle.gta_syntax.specs.Grammar.{IsPart};
+ghost use Rattle.gta_syntax.specs.Parts.{KindTree};
 ghost use Rattle.gta_syntax.specs.Parts.{test_tree, kind_tree};
 ghost use Rattle.gta_syntax.specs.Symbols.{symbols};
 ghost use Rattle.gta_syntax.specs.Rules.{Gives, check_at, fold_at, test_at, shape_at, end_at, best_at, goal_at};
@@ -200,4 +204,16 @@ pub(crate) fn part_at(alloc: Global, source: &[u8], tokens: &[Token]) -> Result<
         return Err(LineFault::Grammar);
     }
     Ok(part)
+}
+
+/// A line has a part where the grammar derives one.
+fn sound()
+    ensures { (ts : List Symbol) (part : KindTree) → part_at ts ≡ Some part → IsPart part ts }
+{
+}
+
+/// What the grammar derives is read.
+fn complete()
+    ensures { (ts : List Symbol) (part : KindTree) → IsPart part ts → part_at ts ≡ Some part }
+{
 }

@@ -46,7 +46,7 @@ pub(crate) fn number<'t>(source: &[u8], tokens: &'t [Token]) -> Option<(u64, &'t
     }
 }
 
-fn value_of(digits: &[u8]) -> u64
+pub(crate) fn value_of(digits: &[u8]) -> u64
     ensures value { result ≡ unwrap_or (digits_number digits.now) (NUMBER_BOUND + 1) }
     ensures within { result ≤ NUMBER_BOUND + 1 }
 {
