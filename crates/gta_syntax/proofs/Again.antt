@@ -1,6 +1,6 @@
 -- Lists of items: what is derived is read, where what follows an item does not belong to it.
-use Rattle.std.proofs.Common.{◌≡◌, ℕ, zero, suc, ◌+◌, ◌≤◌, ◌<◌, Bool, true, false, List, [], ◌∷◌, length, refl, sym, ap, ◌∙◌, arith}
-use Rattle.std.specs.Prelude.{Option, Some, None}
+use Rattle.std.proofs.Common.{◌≡◌, ℕ, zero, suc, ◌≤◌, ◌<◌, Bool, true, false, List, length, refl, arith}
+use Rattle.std.specs.Prelude.{Option, Some}
 use Rattle.gta_syntax.specs.Symbols.{Symbol}
 use Rattle.gta_syntax.specs.Grammar.{Many, none, some, Listed, listed}
 use Rattle.gta_syntax.specs.Rules.{many, list_at}

@@ -1,6 +1,6 @@
 -- What is derived is read: a lemma for each rule, with a line for each alternative.
-use Rattle.std.proofs.Common.{◌≡◌, ℕ, ◌≤◌, ◌<◌, Bool, true, false, List, [], ◌∷◌, length, refl, sym, ap, ◌∙◌, arith}
-use Rattle.std.specs.Prelude.{ℤ, Option, Some, None, codes}
+use Rattle.std.proofs.Common.{◌≡◌, ℕ, ◌≤◌, ◌<◌, Bool, true, false, List, [], length, refl, sym, ap, ◌∙◌, arith}
+use Rattle.std.specs.Prelude.{ℤ, Some, None, codes}
 use Rattle.std.specs.Str.{bytes_eq}
 use Rattle.std.proofs.lemmas.Slice.Eq.{bytes_eq-Decides}
 use Rattle.shape_gen.specs.declared.shape.Shape.{Shape}
@@ -11,11 +11,11 @@ use Rattle.gta_syntax.specs.declared.parts.AtomPart.{AtomPart}
 use Rattle.gta_syntax.specs.declared.parts.Cmp.{Cmp}
 use Rattle.gta_syntax.specs.declared.parts.Check.{Check}
 use Rattle.gta_syntax.specs.declared.parts.GoalPart.{GoalPart}
-use Rattle.gta_syntax.specs.Symbols.{Symbol, Word, Digits, Text, Sign, Stray}
+use Rattle.gta_syntax.specs.Symbols.{Symbol}
 use Rattle.gta_syntax.specs.Parts.{CaseTree, PickTree, TestTree, KindTree}
 use Rattle.gta_syntax.specs.Grammar.{IsWord, IsSign, IsDigits, IsText, IsName, IsNames, IsNum, IsItem, IsCmp, IsAtom, IsAnd, IsCond, IsIf, IsTerm, IsFirstTerm, IsNextTerm, IsForm, IsCase, IsNextCase, IsCases, IsPick, IsNextPick, IsPicks, IsCheck, IsTest, IsShape, IsEnd, IsGoal, IsLine, IsPart, Listed, behind}
-use Rattle.gta_syntax.specs.Rules.{word_at, sign_at, digits_at, text_at, name_at, names_at, num_at, item_at, cmp_at, atom_at, and_at, cond_at, if_at, term_at, first_term_at, next_term_at, form_at, case_at, next_case_at, cases_at, pick_at, next_pick_at, picks_at, check_at, fold_at, test_at, shape_at, end_at, best_at, goal_at, measure_at, table_at, times_at, line_at, part_at, begins_name, begins_word, begins_sign, begins_next_term, list_at, ended_by}
-use Rattle.gta_syntax.proofs.Again.{IsReadable, many_again, list_again, list_within}
+use Rattle.gta_syntax.specs.Rules.{word_at, sign_at, digits_at, text_at, name_at, names_at, num_at, item_at, cmp_at, atom_at, and_at, cond_at, if_at, term_at, first_term_at, next_term_at, form_at, case_at, next_case_at, cases_at, pick_at, next_pick_at, picks_at, check_at, fold_at, test_at, shape_at, end_at, best_at, goal_at, measure_at, table_at, times_at, line_at, part_at, begins_name, begins_word, begins_sign, begins_next_term, list_at}
+use Rattle.gta_syntax.proofs.Again.{IsReadable, list_again, list_within}
 
 same : (xs : List ℕ) → bytes_eq xs xs ≡ true
 same xs = (bytes_eq-Decides xs xs).1 refl
@@ -270,8 +270,10 @@ record EndsCase (ts : List Symbol) : Type 0 where
 case_again : {x : CaseTree} {ts rest : List Symbol} → IsCase x ts rest → EndsCase rest → case_at ts ≡ Some (x, rest)
 unfolding case_at
 case_again (IsCase.case f i) ends =
-    rw (form_again f (no_sign_at_if (codes "+") i ends.no_plus) (no_sign_at_if (codes "-") i ends.no_minus) (no_sign_at_if (codes "*") i ends.no_star),
-      if_again i ends.ends_if) refl
+    rw (
+      form_again f (no_sign_at_if (codes "+") i ends.no_plus) (no_sign_at_if (codes "-") i ends.no_minus) (no_sign_at_if (codes "*") i ends.no_star),
+      if_again i ends.ends_if,
+    ) refl
 
 case_within : {x : CaseTree} {ts rest : List Symbol} → IsCase x ts rest → length rest ≤ length ts
 case_within (IsCase.case f i) = omega (arith, list_within terms_readable (λ x ts a d. first_term_within d) f, if_within i)
@@ -350,9 +352,16 @@ unfolding test_at fold_at
 test_again (IsTest.sum w n k) off = rw (word_again w, name_again n, check_again k) refl
 test_again (IsTest.length w k) off = rw (no_other_word (codes "sum") w refl, word_again w, check_again k) refl
 test_again (IsTest.fold w n v p u e) off =
-    rw (no_other_word (codes "sum") w refl, no_other_word (codes "length") w refl, word_again w, name_again n, word_again v,
+    rw (
+      no_other_word (codes "sum") w refl,
+      no_other_word (codes "length") w refl,
+      word_again w,
+      name_again n,
+      word_again v,
       picks_again p (no_sign_at_word (codes ";") u) (record { no_if = no_other_word (codes "if") u refl; no_and = no_other_word (codes "and") u refl }),
-      word_again u, names_again e off) refl
+      word_again u,
+      names_again e off,
+    ) refl
 
 -- shapes and goals
 
@@ -377,8 +386,16 @@ goal_again (IsGoal.max w n) = rw (no_other_word (codes "count") w refl, no_other
 goal_again (IsGoal.min w n) =
     rw (no_other_word (codes "count") w refl, no_other_word (codes "any") w refl, no_other_word (codes "max") w refl, word_again w, name_again n) refl
 goal_again (IsGoal.best w d e n) =
-    rw (no_other_word (codes "count") w refl, no_other_word (codes "any") w refl, no_other_word (codes "max") w refl, no_other_word (codes "min") w refl,
-      word_again w, digits_again d, end_again e, name_again n) refl
+    rw (
+      no_other_word (codes "count") w refl,
+      no_other_word (codes "any") w refl,
+      no_other_word (codes "max") w refl,
+      no_other_word (codes "min") w refl,
+      word_again w,
+      digits_again d,
+      end_again e,
+      name_again n,
+    ) refl
 
 -- lines
 
@@ -407,23 +424,71 @@ unfolding line_at measure_at table_at times_at
 line_again (IsLine.columns w d) = rw (word_again w, items_again d no_name_at_end (no_sign_at_end (codes "="))) refl
 line_again (IsLine.labels w d) = rw (no_other_word (codes "columns") w refl, word_again w, names_again d no_name_at_end) refl
 line_again (IsLine.measure w n s d) =
-    rw (no_other_word (codes "columns") w refl, no_other_word (codes "labels") w refl, word_again w, name_again n, sign_again s,
-      cases_again d (no_sign_at_end (codes ";")) case_at_end) refl
+    rw (
+      no_other_word (codes "columns") w refl,
+      no_other_word (codes "labels") w refl,
+      word_again w,
+      name_again n,
+      sign_again s,
+      cases_again d (no_sign_at_end (codes ";")) case_at_end,
+    ) refl
 line_again (IsLine.table w n u m v d) =
-    rw (no_other_word (codes "columns") w refl, no_other_word (codes "labels") w refl, no_other_word (codes "measure") w refl, word_again w,
-      name_again n, word_again u, name_again m, word_again v, names_again d no_name_at_end) refl
+    rw (
+      no_other_word (codes "columns") w refl,
+      no_other_word (codes "labels") w refl,
+      no_other_word (codes "measure") w refl,
+      word_again w,
+      name_again n,
+      word_again u,
+      name_again m,
+      word_again v,
+      names_again d no_name_at_end,
+    ) refl
 line_again (IsLine.times w n m s d) =
-    rw (no_other_word (codes "columns") w refl, no_other_word (codes "labels") w refl, no_other_word (codes "measure") w refl, no_other_word (codes "table") w refl,
-      word_again w, name_again n, name_again m, sign_again s, names_again d no_name_at_end) refl
+    rw (
+      no_other_word (codes "columns") w refl,
+      no_other_word (codes "labels") w refl,
+      no_other_word (codes "measure") w refl,
+      no_other_word (codes "table") w refl,
+      word_again w,
+      name_again n,
+      name_again m,
+      sign_again s,
+      names_again d no_name_at_end,
+    ) refl
 line_again (IsLine.generate w d) =
-    rw (no_other_word (codes "columns") w refl, no_other_word (codes "labels") w refl, no_other_word (codes "measure") w refl, no_other_word (codes "table") w refl,
-      no_other_word (codes "times") w refl, word_again w, shape_again d) refl
+    rw (
+      no_other_word (codes "columns") w refl,
+      no_other_word (codes "labels") w refl,
+      no_other_word (codes "measure") w refl,
+      no_other_word (codes "table") w refl,
+      no_other_word (codes "times") w refl,
+      word_again w,
+      shape_again d,
+    ) refl
 line_again (IsLine.test w d) =
-    rw (no_other_word (codes "columns") w refl, no_other_word (codes "labels") w refl, no_other_word (codes "measure") w refl, no_other_word (codes "table") w refl,
-      no_other_word (codes "times") w refl, no_other_word (codes "generate") w refl, word_again w, test_again d no_name_at_end) refl
+    rw (
+      no_other_word (codes "columns") w refl,
+      no_other_word (codes "labels") w refl,
+      no_other_word (codes "measure") w refl,
+      no_other_word (codes "table") w refl,
+      no_other_word (codes "times") w refl,
+      no_other_word (codes "generate") w refl,
+      word_again w,
+      test_again d no_name_at_end,
+    ) refl
 line_again (IsLine.aggregate w d) =
-    rw (no_other_word (codes "columns") w refl, no_other_word (codes "labels") w refl, no_other_word (codes "measure") w refl, no_other_word (codes "table") w refl,
-      no_other_word (codes "times") w refl, no_other_word (codes "generate") w refl, no_other_word (codes "test") w refl, word_again w, goal_again d) refl
+    rw (
+      no_other_word (codes "columns") w refl,
+      no_other_word (codes "labels") w refl,
+      no_other_word (codes "measure") w refl,
+      no_other_word (codes "table") w refl,
+      no_other_word (codes "times") w refl,
+      no_other_word (codes "generate") w refl,
+      no_other_word (codes "test") w refl,
+      word_again w,
+      goal_again d,
+    ) refl
 
 pub part_again : {x : KindTree} {ts : List Symbol} → IsPart x ts → part_at ts ≡ Some x
 unfolding part_at

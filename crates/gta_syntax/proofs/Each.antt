@@ -1,5 +1,5 @@
 -- What holds of a value that was read, if one was.
-use Rattle.std.proofs.Common.{◌≡◌, ℕ, zero, suc, ◌+◌, ◌≤◌, ◌<◌, Bool, true, false, cond, List, [], ◌∷◌, length, refl, sym, ap, subst, ◌∙◌, arith}
+use Rattle.std.proofs.Common.{◌≡◌, ℕ, zero, suc, Bool, true, false, cond, List, [], ◌∷◌, length, refl, subst, arith}
 use Rattle.std.specs.Prelude.{Option, Some, None}
 use Rattle.std.proofs.lemmas.Option.{same_Some}
 use Rattle.gta_syntax.specs.Symbols.{Symbol}
@@ -36,9 +36,10 @@ pub many_takes : {A : Type 0} {Is : A → List Symbol → List Symbol → Type 0
 unfolding many
 many_takes begins takes zero ts = done none
 many_takes {A = A} {Is = Is} {read = read} begins takes (suc n) ts =
-    elim (begins ts) as (λ t. Each {A = List A × List Symbol} (cond t (read ts >>= λ x. many begins read n x.1 >>= λ xs. Some (x.0 ∷ xs.0, xs.1)) (Some ([], ts))) (λ xs. Many Is xs.0 ts xs.1))
-    [ true ↦ and_then (takes ts) (λ x d. and_then (many_takes begins takes n x.1) (λ xs ds. done (some d ds)))
-    | false ↦ done none ]
+    elim (begins ts) as (λ t. Each {A = List A × List Symbol} (cond t (read ts >>= λ x. many begins read n x.1 >>= λ xs. Some (x.0 ∷ xs.0, xs.1)) (Some ([], ts))) (λ xs. Many Is xs.0 ts xs.1)) [
+      | true ↦ and_then (takes ts) (λ x d. and_then (many_takes begins takes n x.1) (λ xs ds. done (some d ds)))
+      | false ↦ done none
+    ]
 
 pub list_takes : {A : Type 0} {First Next : A → List Symbol → List Symbol → Type 0} {first next : List Symbol → Option (A × List Symbol)}
     → (begins : List Symbol → Bool) → ((ts : List Symbol) → Each (first ts) (λ x. First x.0 ts x.1)) → ((ts : List Symbol) → Each (next ts) (λ x. Next x.0 ts x.1))

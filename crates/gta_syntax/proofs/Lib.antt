@@ -4,3 +4,4 @@ pub mod Sound
 pub mod Again
 pub mod Complete
 pub mod PartLoops
+pub mod Readings

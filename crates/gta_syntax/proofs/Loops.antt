@@ -1,5 +1,5 @@
 -- Reading items one after the other, as a loop does.
-use Rattle.std.proofs.Common.{◌≡◌, ℕ, suc, ◌-◌, ◌+◌, ◌≤◌, ◌<◌, Bool, true, false, List, [], ◌∷◌, ◌++◌, refl, sym, ap, ◌∙◌, append_assoc, arith}
+use Rattle.std.proofs.Common.{◌≡◌, ℕ, suc, Bool, true, false, List, [], ◌∷◌, ◌++◌, refl, sym, ap, ◌∙◌, append_assoc}
 use Rattle.std.proofs.lemmas.List.{append-nil}
 use Rattle.std.specs.Prelude.{Option, Some, None}
 use Rattle.gta_syntax.specs.declared.fault.LineFault.{LineFault}
@@ -48,7 +48,7 @@ module _ {A : Type 0} {begins : List Symbol → Bool} {read : List Symbol → Op
   unfolding many
   at_item {n = n} {front = front} {ts = ts} so_far on m more x after item =
       let one : with_front front (many begins read n ts) ≡ with_front (front ++ x ∷ []) (many begins read m after) =
-          rw (more, on, item) (regroup front x (many begins read m after)) in
+      rw (more, on, item) (regroup front x (many begins read m after)) in
       record { joined = sym one ∙ so_far.joined }
 
   pub at_fault : {n : ℕ} {front : List A} {ts : List Symbol} {whole : Option (List A × List Symbol)}

@@ -1,7 +1,7 @@
 -- Reading the parts of lines one after the other, as a loop does.
 use Rattle.std.proofs.Common.{◌≡◌, ℕ, suc, ◌+◌, ◌<◌, true, false, length, drop, get_or, drop-cons, add-one, List, [], ◌∷◌, ◌++◌, refl, sym, ap, ◌∙◌, append_assoc}
 use Rattle.std.proofs.lemmas.List.{append-nil}
-use Rattle.std.specs.Prelude.{Option, Some, None, Result, Ok, Err}
+use Rattle.std.specs.Prelude.{Some, None, Result, Ok, Err}
 use Rattle.gta_text.specs.Text.{Numbered}
 use Rattle.gta_syntax.specs.declared.fault.SpecFault.{SpecFault}
 use Rattle.gta_syntax.specs.declared.fault.SpecFault.TheVariants.{Byte, Version, Grammar, Number, NoRows, Memory}
@@ -61,7 +61,7 @@ pub parts_at_line : {source : List ℕ} {front : List PartTree} {line : Numbered
 unfolding parts_from
 parts_at_line {source = source} {front = front} {line = line} {lines = lines} so_far part is =
     let one : with_front front (parts_from source (line ∷ lines)) ≡ with_front (front ++ part ∷ []) (parts_from source lines) =
-        rw is (regroup front part (parts_from source lines)) in
+    rw is (regroup front part (parts_from source lines)) in
     record { joined = sym one ∙ so_far.joined }
 
 parts_at_refusal : {source : List ℕ} {front : List PartTree} {line : Numbered} {lines : List Numbered} {whole : Result (List PartTree) SpecFault}

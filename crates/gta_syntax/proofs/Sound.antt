@@ -1,13 +1,13 @@
 -- What is read is derived: a lemma for each rule, with a line for each alternative.
-use Rattle.std.proofs.Common.{◌≡◌, ℕ, Bool, true, false, List, [], ◌∷◌, refl, sym, ap, ◌∙◌, arith}
-use Rattle.std.specs.Prelude.{Option, Some, None, codes, cond}
+use Rattle.std.proofs.Common.{◌≡◌, ℕ, Bool, true, false, List, [], ◌∷◌, refl, ap}
+use Rattle.std.specs.Prelude.{Some, None, codes, cond}
 use Rattle.std.specs.Str.{bytes_eq}
 use Rattle.std.proofs.lemmas.Slice.Eq.{bytes_eq-Decides}
 use Rattle.gta_text.specs.Names.{is_name_text}
 use Rattle.gta_syntax.specs.Symbols.{Symbol, Word, Digits, Text, Sign, Stray}
 use Rattle.gta_syntax.specs.Parts.{KindTree}
-use Rattle.gta_syntax.specs.Grammar.{IsWord, IsSign, IsDigits, IsText, IsName, IsNames, IsNum, IsItem, IsCmp, IsAtom, IsAnd, IsCond, IsIf, IsTerm, IsFirstTerm, IsNextTerm, IsForm, IsCase, IsNextCase, IsCases, IsPick, IsNextPick, IsPicks, IsCheck, IsTest, IsShape, IsEnd, IsGoal, IsLine, IsPart, Listed, behind}
-use Rattle.gta_syntax.specs.Rules.{word_at, sign_at, digits_at, text_at, name_at, names_at, num_at, item_at, cmp_at, atom_at, and_at, cond_at, if_at, term_at, first_term_at, next_term_at, form_at, case_at, next_case_at, cases_at, pick_at, next_pick_at, picks_at, check_at, fold_at, test_at, shape_at, end_at, best_at, goal_at, measure_at, table_at, times_at, line_at, part_at, begins_name, list_at, ended_by}
+use Rattle.gta_syntax.specs.Grammar.{IsWord, IsSign, IsDigits, IsText, IsName, IsNames, IsNum, IsItem, IsCmp, IsAtom, IsAnd, IsCond, IsIf, IsTerm, IsFirstTerm, IsNextTerm, IsForm, IsCase, IsNextCase, IsCases, IsPick, IsNextPick, IsPicks, IsCheck, IsTest, IsShape, IsEnd, IsGoal, IsLine, IsPart, behind}
+use Rattle.gta_syntax.specs.Rules.{word_at, sign_at, digits_at, text_at, name_at, names_at, num_at, item_at, cmp_at, atom_at, and_at, cond_at, if_at, term_at, first_term_at, next_term_at, form_at, case_at, next_case_at, cases_at, pick_at, next_pick_at, picks_at, check_at, fold_at, test_at, shape_at, end_at, best_at, goal_at, measure_at, table_at, times_at, line_at, part_at, ended_by}
 use Rattle.gta_syntax.proofs.Each.{Each, done, nothing, and_then, either, then_is, list_takes}
 
 same_bytes : (xs ys : List ℕ) → bytes_eq xs ys ≡ true → xs ≡ ys
@@ -82,7 +82,7 @@ cmp_takes : (ts : List Symbol) → Each (cmp_at ts) (λ c. IsCmp c.0 ts c.1)
 unfolding cmp_at
 cmp_takes ts = either (sign_takes (codes "<=") ts) (λ a s. done (IsCmp.at_most s))
     (either (sign_takes (codes ">=") ts) (λ a s. done (IsCmp.at_least s))
-      (and_then (sign_takes (codes "=") ts) (λ a s. done (IsCmp.equal s))))
+    (and_then (sign_takes (codes "=") ts) (λ a s. done (IsCmp.equal s))))
 
 atom_takes : (ts : List Symbol) → Each (atom_at ts) (λ x. IsAtom x.0 ts x.1)
 unfolding atom_at
@@ -105,8 +105,8 @@ term_takes : (minus : Bool) (ts : List Symbol) → Each (term_at minus ts) (λ x
 unfolding term_at
 term_takes minus ts = either (digits_takes ts)
     (λ n d. either (sign_takes (codes "*") n.1)
-      (λ a s. and_then (name_takes a) (λ x m. done (IsTerm.multiple d s m)))
-      (done (IsTerm.constant d)))
+    (λ a s. and_then (name_takes a) (λ x m. done (IsTerm.multiple d s m)))
+    (done (IsTerm.constant d)))
     (and_then (name_takes ts) (λ x m. done (IsTerm.column m)))
 
 first_term_takes : (ts : List Symbol) → Each (first_term_at ts) (λ x. IsFirstTerm x.0 ts x.1)
@@ -160,16 +160,16 @@ unfolding test_at
 test_takes ts = either (word_takes (codes "sum") ts)
     (λ a w. and_then (name_takes a) (λ x n. and_then (check_takes x.1) (λ k d. done (IsTest.sum w n d))))
     (either (word_takes (codes "length") ts)
-      (λ a w. and_then (check_takes a) (λ k d. done (IsTest.length w d)))
-      (and_then (word_takes (codes "fold") ts) (λ a w. then_is (fold_takes a) (λ x d. d ts w))))
+    (λ a w. and_then (check_takes a) (λ k d. done (IsTest.length w d)))
+    (and_then (word_takes (codes "fold") ts) (λ a w. then_is (fold_takes a) (λ x d. d ts w))))
 
 shape_takes : (ts : List Symbol) → Each (shape_at ts) (λ x. IsShape x.0 ts x.1)
 unfolding shape_at
 shape_takes ts = either (word_takes (codes "sublists") ts) (λ a w. done (IsShape.sublists w))
     (either (word_takes (codes "segments") ts) (λ a w. done (IsShape.segments w))
-      (either (word_takes (codes "prefixes") ts) (λ a w. done (IsShape.prefixes w))
-        (either (word_takes (codes "suffixes") ts) (λ a w. done (IsShape.suffixes w))
-          (and_then (word_takes (codes "assign") ts) (λ a w. done (IsShape.assign w))))))
+    (either (word_takes (codes "prefixes") ts) (λ a w. done (IsShape.prefixes w))
+    (either (word_takes (codes "suffixes") ts) (λ a w. done (IsShape.suffixes w))
+    (and_then (word_takes (codes "assign") ts) (λ a w. done (IsShape.assign w))))))
 
 end_takes : (ts : List Symbol) → Each (end_at ts) (λ x. IsEnd x.0 ts x.1)
 unfolding end_at
@@ -184,9 +184,9 @@ goal_takes : (ts : List Symbol) → Each (goal_at ts) (λ x. IsGoal x.0 ts x.1)
 unfolding goal_at
 goal_takes ts = either (word_takes (codes "count") ts) (λ a w. done (IsGoal.count w))
     (either (word_takes (codes "any") ts) (λ a w. done (IsGoal.any w))
-      (either (word_takes (codes "max") ts) (λ a w. and_then (name_takes a) (λ x n. done (IsGoal.max w n)))
-        (either (word_takes (codes "min") ts) (λ a w. and_then (name_takes a) (λ x n. done (IsGoal.min w n)))
-          (and_then (word_takes (codes "best") ts) (λ a w. then_is (best_takes a) (λ x d. d ts w))))))
+    (either (word_takes (codes "max") ts) (λ a w. and_then (name_takes a) (λ x n. done (IsGoal.max w n)))
+    (either (word_takes (codes "min") ts) (λ a w. and_then (name_takes a) (λ x n. done (IsGoal.min w n)))
+    (and_then (word_takes (codes "best") ts) (λ a w. then_is (best_takes a) (λ x d. d ts w))))))
 
 measure_takes : (ts : List Symbol) → Each (measure_at ts) (λ x. (a : List Symbol) → IsWord (codes "measure") a ts → IsLine x.0 a x.1)
 unfolding measure_at
@@ -206,12 +206,12 @@ line_takes : (ts : List Symbol) → Each (line_at ts) (λ x. IsLine x.0 ts x.1)
 unfolding line_at
 line_takes ts = either (word_takes (codes "columns") ts) (λ a w. and_then (list_takes _ item_takes item_takes a) (λ xs d. done (IsLine.columns w d)))
     (either (word_takes (codes "labels") ts) (λ a w. and_then (names_takes a) (λ xs d. done (IsLine.labels w d)))
-      (either (word_takes (codes "measure") ts) (λ a w. then_is (measure_takes a) (λ x d. d ts w))
-        (either (word_takes (codes "table") ts) (λ a w. then_is (table_takes a) (λ x d. d ts w))
-          (either (word_takes (codes "times") ts) (λ a w. then_is (times_takes a) (λ x d. d ts w))
-            (either (word_takes (codes "generate") ts) (λ a w. and_then (shape_takes a) (λ s d. done (IsLine.generate w d)))
-              (either (word_takes (codes "test") ts) (λ a w. and_then (test_takes a) (λ t d. done (IsLine.test w d)))
-                (and_then (word_takes (codes "aggregate") ts) (λ a w. and_then (goal_takes a) (λ x d. done (IsLine.aggregate w d))))))))))
+    (either (word_takes (codes "measure") ts) (λ a w. then_is (measure_takes a) (λ x d. d ts w))
+    (either (word_takes (codes "table") ts) (λ a w. then_is (table_takes a) (λ x d. d ts w))
+    (either (word_takes (codes "times") ts) (λ a w. then_is (times_takes a) (λ x d. d ts w))
+    (either (word_takes (codes "generate") ts) (λ a w. and_then (shape_takes a) (λ s d. done (IsLine.generate w d)))
+    (either (word_takes (codes "test") ts) (λ a w. and_then (test_takes a) (λ t d. done (IsLine.test w d)))
+    (and_then (word_takes (codes "aggregate") ts) (λ a w. and_then (goal_takes a) (λ x d. done (IsLine.aggregate w d))))))))))
 
 ended_takes : (x : KindTree) (ts rest : List Symbol) → IsLine x ts rest → Each (ended_by x rest) (λ y. IsPart y ts)
 ended_takes x ts [] d = done d

@@ -1,5 +1,5 @@
 -- The grammar of a line. `IsX x ts rest` says that the symbols ts are an X that says x, and then rest.
-use Rattle.std.specs.Prelude.{◌≡◌, ℕ, Bool, true, false, List, [], ◌∷◌, ℤ, pos, neg_ℤ, Option, Some, None, codes}
+use Rattle.std.specs.Prelude.{◌≡◌, ℕ, Bool, true, false, List, [], ◌∷◌, ℤ, pos, neg_ℤ, Some, None, codes}
 use Rattle.shape_gen.specs.declared.shape.Shape.{Shape}
 use Rattle.shape_gen.specs.declared.shape.Shape.TheVariants as shapes
 use Rattle.gta_text.specs.Names.{is_name_text}
@@ -13,7 +13,7 @@ use Rattle.gta_syntax.specs.declared.parts.Check.{Check}
 use Rattle.gta_syntax.specs.declared.parts.Check.TheVariants.{Compare, Mod}
 use Rattle.gta_syntax.specs.declared.parts.GoalPart.{GoalPart}
 use Rattle.gta_syntax.specs.declared.parts.GoalPart.TheVariants.{Count, Any, Max, Min, Best}
-use Rattle.gta_syntax.specs.Parts.{CaseTree, MeasureTree, TableTree, TimesTree, PickTree, TestTree, Sum, Length, Fold, KindTree, Columns, Labels, Measure, Table, Times, Generate, Test, Aggregate}
+use Rattle.gta_syntax.specs.Parts.{CaseTree, PickTree, TestTree, Sum, Length, Fold, KindTree, Columns, Labels, Measure, Table, Times, Generate, Test, Aggregate}
 use Rattle.gta_syntax.specs.Symbols.{Symbol, Word, Digits, Text, Sign}
 
 abbrev pub IsWord : List ℕ → List Symbol → List Symbol → Type 0

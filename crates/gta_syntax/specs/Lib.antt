@@ -5,3 +5,4 @@ pub mod Rules
 pub mod SpecText
 pub mod Refusals
 pub mod Faults
+pub mod Refused

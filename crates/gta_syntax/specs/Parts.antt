@@ -1,5 +1,5 @@
 -- The parts of a specification with lists in place of vectors, as the grammar speaks of them.
-use Rattle.std.specs.Prelude.{ℕ, Bool, List, map, ℤ, Option}
+use Rattle.std.specs.Prelude.{ℕ, List, map}
 use Rattle.shape_gen.specs.declared.shape.Shape.{Shape}
 use Rattle.gta_syntax.specs.declared.parts.ColumnItem.{ColumnItem}
 use Rattle.gta_syntax.specs.declared.parts.TermPart.{TermPart}

@@ -16,7 +16,7 @@ use Rattle.gta_syntax.specs.declared.parts.GoalPart.{GoalPart}
 use Rattle.gta_syntax.specs.declared.parts.GoalPart.TheVariants.{Count, Any, Max, Min, Best}
 use Rattle.gta_syntax.specs.declared.fault.LineFault.{LineFault}
 use Rattle.gta_syntax.specs.declared.fault.LineFault.TheVariants as faults
-use Rattle.gta_syntax.specs.Parts.{CaseTree, MeasureTree, TableTree, TimesTree, PickTree, TestTree, Sum, Length, Fold, KindTree, Columns, Labels, Measure, Table, Times, Generate, Test, Aggregate}
+use Rattle.gta_syntax.specs.Parts.{CaseTree, PickTree, TestTree, Sum, Length, Fold, KindTree, Columns, Labels, Measure, Table, Times, Generate, Test, Aggregate}
 use Rattle.gta_syntax.specs.Symbols.{Symbol, Word, Digits, Text, Sign, Stray}
 
 infixl 10 ◌>>=◌
@@ -123,17 +123,17 @@ unfoldable pub item_at : List Symbol → Option (ColumnItem × List Symbol)
 item_at ts = do
   x ← name_at ts
   choose (sign_at (codes "=") x.1)
-    (λ a. do
-      t ← text_at a
-      Some (record { name = x.0; header = Some t.0 }, t.1))
-    (Some (record { name = x.0; header = None }, x.1))
+      (λ a. do
+        t ← text_at a
+        Some (record { name = x.0; header = Some t.0 }, t.1))
+      (Some (record { name = x.0; header = None }, x.1))
 
 unfoldable pub cmp_at : List Symbol → Option (Cmp × List Symbol)
 cmp_at ts = choose (sign_at (codes "<=") ts) (λ a. Some (AtMost, a))
     (choose (sign_at (codes ">=") ts) (λ a. Some (AtLeast, a))
-      (do
-        a ← sign_at (codes "=") ts
-        Some (Equal, a)))
+    (do
+      a ← sign_at (codes "=") ts
+      Some (Equal, a)))
 
 unfoldable pub atom_at : List Symbol → Option (AtomPart × List Symbol)
 atom_at ts = choose (word_at (codes "label") ts)
@@ -160,10 +160,10 @@ if_at ts = choose (word_at (codes "if") ts) (λ a. cond_at a) (Some ([], ts))
 unfoldable pub term_at : Bool → List Symbol → Option (TermPart × List Symbol)
 term_at minus ts = choose (digits_at ts)
     (λ n. choose (sign_at (codes "*") n.1)
-      (λ a. do
-        x ← name_at a
-        Some (record { minus = minus; number = Some n.0; name = Some x.0 }, x.1))
-      (Some (record { minus = minus; number = Some n.0; name = None }, n.1)))
+    (λ a. do
+      x ← name_at a
+      Some (record { minus = minus; number = Some n.0; name = Some x.0 }, x.1))
+    (Some (record { minus = minus; number = Some n.0; name = None }, n.1)))
     (do
       x ← name_at ts
       Some (record { minus = minus; number = None; name = Some x.0 }, x.1))
@@ -236,21 +236,21 @@ test_at ts = choose (word_at (codes "sum") ts)
       k ← check_at x.1
       Some (Sum x.0 k.0, k.1))
     (choose (word_at (codes "length") ts)
-      (λ a. do
-        k ← check_at a
-        Some (Length k.0, k.1))
-      (do
-        a ← word_at (codes "fold") ts
-        fold_at a))
+    (λ a. do
+      k ← check_at a
+      Some (Length k.0, k.1))
+    (do
+      a ← word_at (codes "fold") ts
+      fold_at a))
 
 unfoldable pub shape_at : List Symbol → Option (Shape × List Symbol)
 shape_at ts = choose (word_at (codes "sublists") ts) (λ a. Some (shapes.Sublists, a))
     (choose (word_at (codes "segments") ts) (λ a. Some (shapes.Segments, a))
-      (choose (word_at (codes "prefixes") ts) (λ a. Some (shapes.Prefixes, a))
-        (choose (word_at (codes "suffixes") ts) (λ a. Some (shapes.Suffixes, a))
-          (do
-            a ← word_at (codes "assign") ts
-            Some (shapes.Assign, a)))))
+    (choose (word_at (codes "prefixes") ts) (λ a. Some (shapes.Prefixes, a))
+    (choose (word_at (codes "suffixes") ts) (λ a. Some (shapes.Suffixes, a))
+    (do
+      a ← word_at (codes "assign") ts
+      Some (shapes.Assign, a)))))
 
 unfoldable pub end_at : List Symbol → Option (Bool × List Symbol)
 end_at ts = choose (word_at (codes "max") ts) (λ a. Some (true, a))
@@ -268,17 +268,17 @@ best_at ts = do
 unfoldable pub goal_at : List Symbol → Option (GoalPart × List Symbol)
 goal_at ts = choose (word_at (codes "count") ts) (λ a. Some (Count, a))
     (choose (word_at (codes "any") ts) (λ a. Some (Any, a))
-      (choose (word_at (codes "max") ts)
-        (λ a. do
-          x ← name_at a
-          Some (Max x.0, x.1))
-        (choose (word_at (codes "min") ts)
-          (λ a. do
-            x ← name_at a
-            Some (Min x.0, x.1))
-          (do
-            a ← word_at (codes "best") ts
-            best_at a))))
+    (choose (word_at (codes "max") ts)
+    (λ a. do
+      x ← name_at a
+      Some (Max x.0, x.1))
+    (choose (word_at (codes "min") ts)
+    (λ a. do
+      x ← name_at a
+      Some (Min x.0, x.1))
+    (do
+      a ← word_at (codes "best") ts
+      best_at a))))
 
 unfoldable pub measure_at : List Symbol → Option (KindTree × List Symbol)
 measure_at ts = do
@@ -312,14 +312,14 @@ kind_as make read = do
 unfoldable pub line_at : List Symbol → Option (KindTree × List Symbol)
 line_at ts = choose (word_at (codes "columns") ts) (λ a. kind_as Columns (list_at item_at begins_name item_at a))
     (choose (word_at (codes "labels") ts) (λ a. kind_as Labels (names_at a))
-      (choose (word_at (codes "measure") ts) (λ a. measure_at a)
-        (choose (word_at (codes "table") ts) (λ a. table_at a)
-          (choose (word_at (codes "times") ts) (λ a. times_at a)
-            (choose (word_at (codes "generate") ts) (λ a. kind_as Generate (shape_at a))
-              (choose (word_at (codes "test") ts) (λ a. kind_as Test (test_at a))
-                (do
-                  a ← word_at (codes "aggregate") ts
-                  kind_as Aggregate (goal_at a))))))))
+    (choose (word_at (codes "measure") ts) (λ a. measure_at a)
+    (choose (word_at (codes "table") ts) (λ a. table_at a)
+    (choose (word_at (codes "times") ts) (λ a. times_at a)
+    (choose (word_at (codes "generate") ts) (λ a. kind_as Generate (shape_at a))
+    (choose (word_at (codes "test") ts) (λ a. kind_as Test (test_at a))
+    (do
+      a ← word_at (codes "aggregate") ts
+      kind_as Aggregate (goal_at a))))))))
 
 -- x, where nothing is left
 abbrev pub ended_by : {A : Type 0} → A → List Symbol → Option A

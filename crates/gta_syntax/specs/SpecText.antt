@@ -1,12 +1,12 @@
 -- Which specification a text is: its lines, each derived by the grammar.
-use Rattle.std.specs.Prelude.{◌≡◌, ℕ, Bool, true, false, ◌&&◌, List, [], ◌∷◌, nat_lt, Option, Some, None, Result, Ok, Err, codes}
+use Rattle.std.specs.Prelude.{◌≡◌, ℕ, Bool, true, false, ◌&&◌, List, [], ◌∷◌, nat_lt, Some, Ok, codes}
 use Rattle.std.specs.Str.{bytes_eq}
 use Rattle.std.specs.List.{list_any}
 use Rattle.gta_text.specs.declared.numbers.TheConstants.{NUMBER_BOUND}
 use Rattle.gta_text.specs.declared.token.Token.{Token}
 use Rattle.gta_text.specs.declared.token.TokenKind.{TokenKind}
 use Rattle.gta_text.specs.declared.token.TokenKind.TheVariants as kinds
-use Rattle.gta_text.specs.Text.{Numbered, Found, read_lines, token_text, is_the_word}
+use Rattle.gta_text.specs.Text.{Numbered, read_lines, token_text, is_the_word}
 use Rattle.gta_syntax.specs.Parts.{KindTree, PartTree, SpecTree}
 use Rattle.gta_syntax.specs.Symbols.{Symbol, Word, Digits, Text, Sign, Stray, symbol_of, symbols}
 use Rattle.gta_syntax.specs.Grammar.{IsPart}

@@ -1,10 +1,6 @@
 //! Reading a whole line: each function gives what the definition of its name in specs/Rules.antt
-//! gives. What the grammar says of a line is the clause of `part_of`.
+//! gives.
 ghost use Rattle.std.specs.Prelude.{◌≡◌, codes, map};
-ghost use Rattle.std.specs.Prelude.{List, Some};
-ghost use Rattle.gta_syntax.specs.Symbols.{Symbol};
-ghost use Rattle.gta_syntax.specs.Grammar.{IsPart};
-ghost use Rattle.gta_syntax.specs.Parts.{KindTree};
 ghost use Rattle.gta_syntax.specs.Parts.{test_tree, kind_tree};
 ghost use Rattle.gta_syntax.specs.Symbols.{symbols};
 ghost use Rattle.gta_syntax.specs.Rules.{Gives, check_at, fold_at, test_at, shape_at, end_at, best_at, goal_at};
@@ -35,7 +31,11 @@ fn check_at<'t>(source: &[u8], tokens: &'t [Token]) -> Result<(Check, &'t [Token
 }
 
 #[tactic(auto, unfolding(crate::specs::Rules::fold_at))]
-fn fold_at<'t>(alloc: Global, source: &[u8], tokens: &'t [Token]) -> Result<(TestPart, &'t [Token]), LineFault>
+fn fold_at<'t>(
+    alloc: Global,
+    source: &[u8],
+    tokens: &'t [Token],
+) -> Result<(TestPart, &'t [Token]), LineFault>
     ensures { Gives (λ x. (test_tree x.0, symbols source.now x.1.now)) result (fold_at (symbols source.now tokens.now)) }
 {
     let (table, rest) = name_at(alloc, source, tokens)?;
@@ -43,11 +43,22 @@ fn fold_at<'t>(alloc: Global, source: &[u8], tokens: &'t [Token]) -> Result<(Tes
     let (picks, rest) = picks_at(alloc, source, rest)?;
     let rest = word_at(source, b"accept", rest)?;
     let (accept, rest) = names_at(alloc, source, rest)?;
-    Ok((TestPart::Fold { table, picks, accept }, rest))
+    Ok((
+        TestPart::Fold {
+            table,
+            picks,
+            accept,
+        },
+        rest,
+    ))
 }
 
 #[tactic(auto, unfolding(crate::specs::Rules::test_at))]
-fn test_at<'t>(alloc: Global, source: &[u8], tokens: &'t [Token]) -> Result<(TestPart, &'t [Token]), LineFault>
+fn test_at<'t>(
+    alloc: Global,
+    source: &[u8],
+    tokens: &'t [Token],
+) -> Result<(TestPart, &'t [Token]), LineFault>
     ensures { Gives (λ x. (test_tree x.0, symbols source.now x.1.now)) result (test_at (symbols source.now tokens.now)) }
 {
     if let Some(rest) = word(source, b"sum", tokens) {
@@ -96,7 +107,11 @@ fn end_at<'t>(source: &[u8], tokens: &'t [Token]) -> Result<(bool, &'t [Token]),
 }
 
 #[tactic(auto, unfolding(crate::specs::Rules::best_at))]
-fn best_at<'t>(alloc: Global, source: &[u8], tokens: &'t [Token]) -> Result<(GoalPart, &'t [Token]), LineFault>
+fn best_at<'t>(
+    alloc: Global,
+    source: &[u8],
+    tokens: &'t [Token],
+) -> Result<(GoalPart, &'t [Token]), LineFault>
     ensures { Gives (λ x. (x.0, symbols source.now x.1.now)) result (best_at (symbols source.now tokens.now)) }
 {
     let (k, rest) = digits_at(source, tokens)?;
@@ -106,7 +121,11 @@ fn best_at<'t>(alloc: Global, source: &[u8], tokens: &'t [Token]) -> Result<(Goa
 }
 
 #[tactic(auto, unfolding(crate::specs::Rules::goal_at))]
-fn goal_at<'t>(alloc: Global, source: &[u8], tokens: &'t [Token]) -> Result<(GoalPart, &'t [Token]), LineFault>
+fn goal_at<'t>(
+    alloc: Global,
+    source: &[u8],
+    tokens: &'t [Token],
+) -> Result<(GoalPart, &'t [Token]), LineFault>
     ensures { Gives (λ x. (x.0, symbols source.now x.1.now)) result (goal_at (symbols source.now tokens.now)) }
 {
     if let Some(rest) = word(source, b"count", tokens) {
@@ -128,7 +147,11 @@ fn goal_at<'t>(alloc: Global, source: &[u8], tokens: &'t [Token]) -> Result<(Goa
 }
 
 #[tactic(auto, unfolding(crate::specs::Rules::measure_at))]
-fn measure_at<'t>(alloc: Global, source: &[u8], tokens: &'t [Token]) -> Result<(PartKind, &'t [Token]), LineFault>
+fn measure_at<'t>(
+    alloc: Global,
+    source: &[u8],
+    tokens: &'t [Token],
+) -> Result<(PartKind, &'t [Token]), LineFault>
     ensures { Gives (λ x. (kind_tree x.0, symbols source.now x.1.now)) result (measure_at (symbols source.now tokens.now)) }
 {
     let (name, rest) = name_at(alloc, source, tokens)?;
@@ -138,7 +161,11 @@ fn measure_at<'t>(alloc: Global, source: &[u8], tokens: &'t [Token]) -> Result<(
 }
 
 #[tactic(auto, unfolding(crate::specs::Rules::table_at))]
-fn table_at<'t>(alloc: Global, source: &[u8], tokens: &'t [Token]) -> Result<(PartKind, &'t [Token]), LineFault>
+fn table_at<'t>(
+    alloc: Global,
+    source: &[u8],
+    tokens: &'t [Token],
+) -> Result<(PartKind, &'t [Token]), LineFault>
     ensures { Gives (λ x. (kind_tree x.0, symbols source.now x.1.now)) result (table_at (symbols source.now tokens.now)) }
 {
     let (name, rest) = name_at(alloc, source, tokens)?;
@@ -146,22 +173,44 @@ fn table_at<'t>(alloc: Global, source: &[u8], tokens: &'t [Token]) -> Result<(Pa
     let (unit, rest) = name_at(alloc, source, rest)?;
     let rest = word_at(source, b"elements", rest)?;
     let (elements, rest) = names_at(alloc, source, rest)?;
-    Ok((PartKind::Table(TablePart { name, unit, elements }), rest))
+    Ok((
+        PartKind::Table(TablePart {
+            name,
+            unit,
+            elements,
+        }),
+        rest,
+    ))
 }
 
 #[tactic(auto, unfolding(crate::specs::Rules::times_at))]
-fn times_at<'t>(alloc: Global, source: &[u8], tokens: &'t [Token]) -> Result<(PartKind, &'t [Token]), LineFault>
+fn times_at<'t>(
+    alloc: Global,
+    source: &[u8],
+    tokens: &'t [Token],
+) -> Result<(PartKind, &'t [Token]), LineFault>
     ensures { Gives (λ x. (kind_tree x.0, symbols source.now x.1.now)) result (times_at (symbols source.now tokens.now)) }
 {
     let (table, rest) = name_at(alloc, source, tokens)?;
     let (element, rest) = name_at(alloc, source, rest)?;
     let rest = sign_at(source, b"=", rest)?;
     let (products, rest) = names_at(alloc, source, rest)?;
-    Ok((PartKind::Times(TimesPart { table, element, products }), rest))
+    Ok((
+        PartKind::Times(TimesPart {
+            table,
+            element,
+            products,
+        }),
+        rest,
+    ))
 }
 
 #[tactic(auto, unfolding(crate::specs::Rules::line_at))]
-fn line_at<'t>(alloc: Global, source: &[u8], tokens: &'t [Token]) -> Result<(PartKind, &'t [Token]), LineFault>
+fn line_at<'t>(
+    alloc: Global,
+    source: &[u8],
+    tokens: &'t [Token],
+) -> Result<(PartKind, &'t [Token]), LineFault>
     ensures { Gives (λ x. (kind_tree x.0, symbols source.now x.1.now)) result (line_at (symbols source.now tokens.now)) }
 {
     if let Some(rest) = word(source, b"columns", tokens) {
@@ -204,16 +253,4 @@ pub(crate) fn part_at(alloc: Global, source: &[u8], tokens: &[Token]) -> Result<
         return Err(LineFault::Grammar);
     }
     Ok(part)
-}
-
-/// A line has a part where the grammar derives one.
-fn sound()
-    ensures { (ts : List Symbol) (part : KindTree) → part_at ts ≡ Some part → IsPart part ts }
-{
-}
-
-/// What the grammar derives is read.
-fn complete()
-    ensures { (ts : List Symbol) (part : KindTree) → IsPart part ts → part_at ts ≡ Some part }
-{
 }

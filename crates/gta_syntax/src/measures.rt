@@ -14,7 +14,12 @@ use gta_text::Token;
 use std::alloc::Global;
 
 #[tactic(auto, unfolding(crate::specs::Rules::term_at))]
-fn term_at<'t>(alloc: Global, source: &[u8], minus: bool, tokens: &'t [Token]) -> Result<(TermPart, &'t [Token]), LineFault>
+fn term_at<'t>(
+    alloc: Global,
+    source: &[u8],
+    minus: bool,
+    tokens: &'t [Token],
+) -> Result<(TermPart, &'t [Token]), LineFault>
     ensures { Gives (λ x. (x.0, symbols source.now x.1.now)) result (term_at minus (symbols source.now tokens.now)) }
 {
     if let Some((value, rest)) = number(source, tokens) {
@@ -22,19 +27,44 @@ fn term_at<'t>(alloc: Global, source: &[u8], minus: bool, tokens: &'t [Token]) -
         if let Some(after) = sign(source, b"*", rest) {
             let (column, after) = name_at(alloc, source, after)?;
             let name = Some(column);
-            return Ok((TermPart { minus, number, name }, after));
+            return Ok((
+                TermPart {
+                    minus,
+                    number,
+                    name,
+                },
+                after,
+            ));
         }
         let name = None;
-        return Ok((TermPart { minus, number, name }, rest));
+        return Ok((
+            TermPart {
+                minus,
+                number,
+                name,
+            },
+            rest,
+        ));
     }
     let (column, rest) = name_at(alloc, source, tokens)?;
     let name = Some(column);
     let number = None;
-    Ok((TermPart { minus, number, name }, rest))
+    Ok((
+        TermPart {
+            minus,
+            number,
+            name,
+        },
+        rest,
+    ))
 }
 
 #[tactic(auto, unfolding(crate::specs::Rules::first_term_at))]
-fn first_term_at<'t>(alloc: Global, source: &[u8], tokens: &'t [Token]) -> Result<(TermPart, &'t [Token]), LineFault>
+fn first_term_at<'t>(
+    alloc: Global,
+    source: &[u8],
+    tokens: &'t [Token],
+) -> Result<(TermPart, &'t [Token]), LineFault>
     ensures { Gives (λ x. (x.0, symbols source.now x.1.now)) result (first_term_at (symbols source.now tokens.now)) }
 {
     match sign(source, b"-", tokens) {
@@ -44,7 +74,11 @@ fn first_term_at<'t>(alloc: Global, source: &[u8], tokens: &'t [Token]) -> Resul
 }
 
 #[tactic(auto, unfolding(crate::specs::Rules::next_term_at))]
-fn next_term_at<'t>(alloc: Global, source: &[u8], tokens: &'t [Token]) -> Result<(TermPart, &'t [Token]), LineFault>
+fn next_term_at<'t>(
+    alloc: Global,
+    source: &[u8],
+    tokens: &'t [Token],
+) -> Result<(TermPart, &'t [Token]), LineFault>
     ensures { Gives (λ x. (x.0, symbols source.now x.1.now)) result (next_term_at (symbols source.now tokens.now)) }
 {
     if let Some(rest) = sign(source, b"+", tokens) {
@@ -61,7 +95,11 @@ fn begins_next_term(source: &[u8], tokens: &[Token]) -> bool
 }
 
 #[tactic(auto, unfolding(crate::specs::Rules::list_at))]
-fn form_at<'t>(alloc: Global, source: &[u8], tokens: &'t [Token]) -> Result<(Vec<TermPart>, &'t [Token]), LineFault>
+fn form_at<'t>(
+    alloc: Global,
+    source: &[u8],
+    tokens: &'t [Token],
+) -> Result<(Vec<TermPart>, &'t [Token]), LineFault>
     ensures { Gives (λ x. (x.0.items, symbols source.now x.1.now)) result (form_at (symbols source.now tokens.now)) }
 {
     let (first, rest) = first_term_at(alloc, source, tokens)?;
@@ -70,7 +108,11 @@ fn form_at<'t>(alloc: Global, source: &[u8], tokens: &'t [Token]) -> Result<(Vec
     Ok((terms, rest))
 }
 
-fn more_terms<'t>(alloc: Global, source: &[u8], tokens: &'t [Token]) -> Result<(Vec<TermPart>, &'t [Token]), LineFault>
+fn more_terms<'t>(
+    alloc: Global,
+    source: &[u8],
+    tokens: &'t [Token],
+) -> Result<(Vec<TermPart>, &'t [Token]), LineFault>
     ensures { Gives (λ x. (x.0.items, symbols source.now x.1.now)) result (many begins_next_term next_term_at (length tokens.now) (symbols source.now tokens.now)) }
 {
     let mut terms = Vec::new(alloc);
@@ -87,7 +129,11 @@ fn more_terms<'t>(alloc: Global, source: &[u8], tokens: &'t [Token]) -> Result<(
 }
 
 #[tactic(auto, unfolding(crate::specs::Rules::case_at))]
-fn case_at<'t>(alloc: Global, source: &[u8], tokens: &'t [Token]) -> Result<(CasePart, &'t [Token]), LineFault>
+fn case_at<'t>(
+    alloc: Global,
+    source: &[u8],
+    tokens: &'t [Token],
+) -> Result<(CasePart, &'t [Token]), LineFault>
     ensures { Gives (λ x. (case_tree x.0, symbols source.now x.1.now)) result (case_at (symbols source.now tokens.now)) }
 {
     let (form, rest) = form_at(alloc, source, tokens)?;
@@ -96,7 +142,11 @@ fn case_at<'t>(alloc: Global, source: &[u8], tokens: &'t [Token]) -> Result<(Cas
 }
 
 #[tactic(auto, unfolding(crate::specs::Rules::next_case_at))]
-fn next_case_at<'t>(alloc: Global, source: &[u8], tokens: &'t [Token]) -> Result<(CasePart, &'t [Token]), LineFault>
+fn next_case_at<'t>(
+    alloc: Global,
+    source: &[u8],
+    tokens: &'t [Token],
+) -> Result<(CasePart, &'t [Token]), LineFault>
     ensures { Gives (λ x. (case_tree x.0, symbols source.now x.1.now)) result (next_case_at (symbols source.now tokens.now)) }
 {
     let rest = sign_at(source, b";", tokens)?;
@@ -104,7 +154,11 @@ fn next_case_at<'t>(alloc: Global, source: &[u8], tokens: &'t [Token]) -> Result
 }
 
 #[tactic(auto, unfolding(crate::specs::Rules::list_at))]
-pub(crate) fn cases_at<'t>(alloc: Global, source: &[u8], tokens: &'t [Token]) -> Result<(Vec<CasePart>, &'t [Token]), LineFault>
+pub(crate) fn cases_at<'t>(
+    alloc: Global,
+    source: &[u8],
+    tokens: &'t [Token],
+) -> Result<(Vec<CasePart>, &'t [Token]), LineFault>
     ensures { Gives (λ x. (map case_tree x.0.items, symbols source.now x.1.now)) result (cases_at (symbols source.now tokens.now)) }
 {
     let (first, rest) = case_at(alloc, source, tokens)?;
@@ -113,7 +167,11 @@ pub(crate) fn cases_at<'t>(alloc: Global, source: &[u8], tokens: &'t [Token]) ->
     Ok((cases, rest))
 }
 
-fn more_cases<'t>(alloc: Global, source: &[u8], tokens: &'t [Token]) -> Result<(Vec<CasePart>, &'t [Token]), LineFault>
+fn more_cases<'t>(
+    alloc: Global,
+    source: &[u8],
+    tokens: &'t [Token],
+) -> Result<(Vec<CasePart>, &'t [Token]), LineFault>
     ensures { Gives (λ x. (map case_tree x.0.items, symbols source.now x.1.now)) result (many (begins_sign (codes ";")) next_case_at (length tokens.now) (symbols source.now tokens.now)) }
 {
     let mut cases = Vec::new(alloc);
@@ -130,7 +188,11 @@ fn more_cases<'t>(alloc: Global, source: &[u8], tokens: &'t [Token]) -> Result<(
 }
 
 #[tactic(auto, unfolding(crate::specs::Rules::pick_at))]
-fn pick_at<'t>(alloc: Global, source: &[u8], tokens: &'t [Token]) -> Result<(PickPart, &'t [Token]), LineFault>
+fn pick_at<'t>(
+    alloc: Global,
+    source: &[u8],
+    tokens: &'t [Token],
+) -> Result<(PickPart, &'t [Token]), LineFault>
     ensures { Gives (λ x. (pick_tree x.0, symbols source.now x.1.now)) result (pick_at (symbols source.now tokens.now)) }
 {
     let (element, rest) = name_at(alloc, source, tokens)?;
@@ -139,7 +201,11 @@ fn pick_at<'t>(alloc: Global, source: &[u8], tokens: &'t [Token]) -> Result<(Pic
 }
 
 #[tactic(auto, unfolding(crate::specs::Rules::next_pick_at))]
-fn next_pick_at<'t>(alloc: Global, source: &[u8], tokens: &'t [Token]) -> Result<(PickPart, &'t [Token]), LineFault>
+fn next_pick_at<'t>(
+    alloc: Global,
+    source: &[u8],
+    tokens: &'t [Token],
+) -> Result<(PickPart, &'t [Token]), LineFault>
     ensures { Gives (λ x. (pick_tree x.0, symbols source.now x.1.now)) result (next_pick_at (symbols source.now tokens.now)) }
 {
     let rest = sign_at(source, b";", tokens)?;
@@ -147,7 +213,11 @@ fn next_pick_at<'t>(alloc: Global, source: &[u8], tokens: &'t [Token]) -> Result
 }
 
 #[tactic(auto, unfolding(crate::specs::Rules::list_at))]
-pub(crate) fn picks_at<'t>(alloc: Global, source: &[u8], tokens: &'t [Token]) -> Result<(Vec<PickPart>, &'t [Token]), LineFault>
+pub(crate) fn picks_at<'t>(
+    alloc: Global,
+    source: &[u8],
+    tokens: &'t [Token],
+) -> Result<(Vec<PickPart>, &'t [Token]), LineFault>
     ensures { Gives (λ x. (map pick_tree x.0.items, symbols source.now x.1.now)) result (picks_at (symbols source.now tokens.now)) }
 {
     let (first, rest) = pick_at(alloc, source, tokens)?;
@@ -156,7 +226,11 @@ pub(crate) fn picks_at<'t>(alloc: Global, source: &[u8], tokens: &'t [Token]) ->
     Ok((picks, rest))
 }
 
-fn more_picks<'t>(alloc: Global, source: &[u8], tokens: &'t [Token]) -> Result<(Vec<PickPart>, &'t [Token]), LineFault>
+fn more_picks<'t>(
+    alloc: Global,
+    source: &[u8],
+    tokens: &'t [Token],
+) -> Result<(Vec<PickPart>, &'t [Token]), LineFault>
     ensures { Gives (λ x. (map pick_tree x.0.items, symbols source.now x.1.now)) result (many (begins_sign (codes ";")) next_pick_at (length tokens.now) (symbols source.now tokens.now)) }
 {
     let mut picks = Vec::new(alloc);

@@ -122,4 +122,3 @@ pub enum GoalPart {
     Min(Name),
     Best { k: u64, greatest: bool, name: Name },
 }
-

@@ -1,13 +1,16 @@
 //! Reading a specification. Which specification a text is, is in specs/SpecText.antt, and the
 //! refusals in their order are in specs/Refusals.antt.
-ghost use Rattle.std.specs.Prelude.{◌≡◌, ◌≤◌, length, map};
+ghost use Rattle.std.specs.Prelude.{◌≡◌, ◌≢◌, ℕ, ◌≤◌, length, map, Ok, Err, IfOk, IsErrOf};
 ghost use Rattle.gta_text.specs.Text.{line_view};
 ghost use Rattle.gta_text.specs.declared.lines.TheConstants.{INPUT_BOUND};
-ghost use Rattle.gta_syntax.specs.Parts.{part_tree};
+ghost use Rattle.gta_syntax.specs.Parts.{part_tree, SpecTree, spec_tree};
 ghost use Rattle.gta_syntax.specs.Symbols.{symbols};
 ghost use Rattle.gta_syntax.specs.Rules.{part_at};
-ghost use Rattle.gta_syntax.specs.SpecText.{is_version, is_past, has_past};
+ghost use Rattle.gta_syntax.specs.SpecText.{SpecText, is_version, is_past, has_past};
 ghost use Rattle.gta_syntax.specs.Symbols.{symbol_of};
+ghost use Rattle.gta_syntax.specs.Refused.{IsRefused};
+ghost use Rattle.gta_syntax.specs.declared.fault.SpecFault.{SpecFault};
+ghost use Rattle.gta_syntax.specs.declared.fault.SpecFault.TheVariants.{Memory};
 ghost use Rattle.gta_syntax.specs.Refusals.{first_past, the_part, parts_from, read_tree, spec_of, Answers};
 
 use crate::fault::{LineFault, SpecFault};
@@ -25,10 +28,27 @@ pub struct Read {
 }
 
 /// The specification that the bytes begin with, up to its line `rows`.
-#[tactic(auto, unfolding(crate::specs::Refusals::spec_of))]
 pub fn read_spec(alloc: Global, bytes: &[u8]) -> Result<Read, SpecFault>
     requires { length bytes.now ≤ INPUT_BOUND }
+    // What is read is the text's specification.
+    ensures found { IfOk result (λ read. SpecText bytes.now (spec_tree read.spec) read.rows_at) }
+    // A text that is a specification is read, unless memory runs out.
+    ensures only { (spec : SpecTree) (place : ℕ) → SpecText bytes.now spec place → Answers read_tree result (Ok (record { spec = spec; rows_at = place })) }
+
+    // Each refusal comes where it stands, and only there.
+    ensures refused { (fault : SpecFault) → IsErrOf result fault → fault ≢ Memory → IsRefused bytes.now fault }
+    ensures refuses { (fault : SpecFault) → IsRefused bytes.now fault → Answers read_tree result (Err fault) }
+
+    // The same by a function of the bytes.
     ensures exact { Answers read_tree result (spec_of bytes.now) }
+{
+    answer_of(alloc, bytes)
+}
+
+#[tactic(auto, unfolding(crate::specs::Refusals::spec_of))]
+fn answer_of(alloc: Global, bytes: &[u8]) -> Result<Read, SpecFault>
+    requires { length bytes.now ≤ INPUT_BOUND }
+    ensures { Answers read_tree result (spec_of bytes.now) }
 {
     let lines = lines_of(alloc, bytes)?;
     let Some((first, others)) = lines.lines.split_first() else {

@@ -7,12 +7,18 @@ ghost use Rattle.gta_syntax.specs.Rules.{num_at, item_at, cmp_at, atom_at, and_a
 
 use crate::fault::LineFault;
 use crate::parts::{AtomPart, Cmp, ColumnItem};
-use crate::symbols::{begins_name, begins_word, digits_at, name_at, sign, sign_at, text_at, word, word_at};
+use crate::symbols::{
+    begins_name, begins_word, digits_at, name_at, sign, sign_at, text_at, word, word_at,
+};
 use gta_text::{Name, Token};
 use std::alloc::Global;
 
 #[tactic(auto, unfolding(crate::specs::Rules::list_at))]
-pub(crate) fn names_at<'t>(alloc: Global, source: &[u8], tokens: &'t [Token]) -> Result<(Vec<Name>, &'t [Token]), LineFault>
+pub(crate) fn names_at<'t>(
+    alloc: Global,
+    source: &[u8],
+    tokens: &'t [Token],
+) -> Result<(Vec<Name>, &'t [Token]), LineFault>
     ensures { Gives (λ x. (x.0.items, symbols source.now x.1.now)) result (names_at (symbols source.now tokens.now)) }
 {
     let (first, rest) = name_at(alloc, source, tokens)?;
@@ -21,7 +27,11 @@ pub(crate) fn names_at<'t>(alloc: Global, source: &[u8], tokens: &'t [Token]) ->
     Ok((names, rest))
 }
 
-fn more_names<'t>(alloc: Global, source: &[u8], tokens: &'t [Token]) -> Result<(Vec<Name>, &'t [Token]), LineFault>
+fn more_names<'t>(
+    alloc: Global,
+    source: &[u8],
+    tokens: &'t [Token],
+) -> Result<(Vec<Name>, &'t [Token]), LineFault>
     ensures { Gives (λ x. (x.0.items, symbols source.now x.1.now)) result (many begins_name name_at (length tokens.now) (symbols source.now tokens.now)) }
 {
     let mut names = Vec::new(alloc);
@@ -38,7 +48,10 @@ fn more_names<'t>(alloc: Global, source: &[u8], tokens: &'t [Token]) -> Result<(
 }
 
 #[tactic(auto, unfolding(crate::specs::Rules::num_at))]
-pub(crate) fn num_at<'t>(source: &[u8], tokens: &'t [Token]) -> Result<(i64, &'t [Token]), LineFault>
+pub(crate) fn num_at<'t>(
+    source: &[u8],
+    tokens: &'t [Token],
+) -> Result<(i64, &'t [Token]), LineFault>
     ensures { Gives (λ x. (x.0, symbols source.now x.1.now)) result (num_at (symbols source.now tokens.now)) }
 {
     if let Some(rest) = sign(source, b"-", tokens) {
@@ -50,7 +63,11 @@ pub(crate) fn num_at<'t>(source: &[u8], tokens: &'t [Token]) -> Result<(i64, &'t
 }
 
 #[tactic(auto, unfolding(crate::specs::Rules::item_at))]
-fn item_at<'t>(alloc: Global, source: &[u8], tokens: &'t [Token]) -> Result<(ColumnItem, &'t [Token]), LineFault>
+fn item_at<'t>(
+    alloc: Global,
+    source: &[u8],
+    tokens: &'t [Token],
+) -> Result<(ColumnItem, &'t [Token]), LineFault>
     ensures { Gives (λ x. (x.0, symbols source.now x.1.now)) result (item_at (symbols source.now tokens.now)) }
 {
     let (name, rest) = name_at(alloc, source, tokens)?;
@@ -64,7 +81,11 @@ fn item_at<'t>(alloc: Global, source: &[u8], tokens: &'t [Token]) -> Result<(Col
 }
 
 #[tactic(auto, unfolding(crate::specs::Rules::list_at))]
-pub(crate) fn items_at<'t>(alloc: Global, source: &[u8], tokens: &'t [Token]) -> Result<(Vec<ColumnItem>, &'t [Token]), LineFault>
+pub(crate) fn items_at<'t>(
+    alloc: Global,
+    source: &[u8],
+    tokens: &'t [Token],
+) -> Result<(Vec<ColumnItem>, &'t [Token]), LineFault>
     ensures { Gives (λ x. (x.0.items, symbols source.now x.1.now)) result (list_at item_at begins_name item_at (symbols source.now tokens.now)) }
 {
     let (first, rest) = item_at(alloc, source, tokens)?;
@@ -73,7 +94,11 @@ pub(crate) fn items_at<'t>(alloc: Global, source: &[u8], tokens: &'t [Token]) ->
     Ok((items, rest))
 }
 
-fn more_items<'t>(alloc: Global, source: &[u8], tokens: &'t [Token]) -> Result<(Vec<ColumnItem>, &'t [Token]), LineFault>
+fn more_items<'t>(
+    alloc: Global,
+    source: &[u8],
+    tokens: &'t [Token],
+) -> Result<(Vec<ColumnItem>, &'t [Token]), LineFault>
     ensures { Gives (λ x. (x.0.items, symbols source.now x.1.now)) result (many begins_name item_at (length tokens.now) (symbols source.now tokens.now)) }
 {
     let mut items = Vec::new(alloc);
@@ -90,7 +115,10 @@ fn more_items<'t>(alloc: Global, source: &[u8], tokens: &'t [Token]) -> Result<(
 }
 
 #[tactic(auto, unfolding(crate::specs::Rules::cmp_at))]
-pub(crate) fn cmp_at<'t>(source: &[u8], tokens: &'t [Token]) -> Result<(Cmp, &'t [Token]), LineFault>
+pub(crate) fn cmp_at<'t>(
+    source: &[u8],
+    tokens: &'t [Token],
+) -> Result<(Cmp, &'t [Token]), LineFault>
     ensures { Gives (λ x. (x.0, symbols source.now x.1.now)) result (cmp_at (symbols source.now tokens.now)) }
 {
     if let Some(rest) = sign(source, b"<=", tokens) {
@@ -104,7 +132,11 @@ pub(crate) fn cmp_at<'t>(source: &[u8], tokens: &'t [Token]) -> Result<(Cmp, &'t
 }
 
 #[tactic(auto, unfolding(crate::specs::Rules::atom_at))]
-fn atom_at<'t>(alloc: Global, source: &[u8], tokens: &'t [Token]) -> Result<(AtomPart, &'t [Token]), LineFault>
+fn atom_at<'t>(
+    alloc: Global,
+    source: &[u8],
+    tokens: &'t [Token],
+) -> Result<(AtomPart, &'t [Token]), LineFault>
     ensures { Gives (λ x. (x.0, symbols source.now x.1.now)) result (atom_at (symbols source.now tokens.now)) }
 {
     if let Some(rest) = word(source, b"label", tokens) {
@@ -118,7 +150,11 @@ fn atom_at<'t>(alloc: Global, source: &[u8], tokens: &'t [Token]) -> Result<(Ato
 }
 
 #[tactic(auto, unfolding(crate::specs::Rules::and_at))]
-fn and_at<'t>(alloc: Global, source: &[u8], tokens: &'t [Token]) -> Result<(AtomPart, &'t [Token]), LineFault>
+fn and_at<'t>(
+    alloc: Global,
+    source: &[u8],
+    tokens: &'t [Token],
+) -> Result<(AtomPart, &'t [Token]), LineFault>
     ensures { Gives (λ x. (x.0, symbols source.now x.1.now)) result (and_at (symbols source.now tokens.now)) }
 {
     let rest = word_at(source, b"and", tokens)?;
@@ -126,7 +162,11 @@ fn and_at<'t>(alloc: Global, source: &[u8], tokens: &'t [Token]) -> Result<(Atom
 }
 
 #[tactic(auto, unfolding(crate::specs::Rules::list_at))]
-fn cond_at<'t>(alloc: Global, source: &[u8], tokens: &'t [Token]) -> Result<(Vec<AtomPart>, &'t [Token]), LineFault>
+fn cond_at<'t>(
+    alloc: Global,
+    source: &[u8],
+    tokens: &'t [Token],
+) -> Result<(Vec<AtomPart>, &'t [Token]), LineFault>
     ensures { Gives (λ x. (x.0.items, symbols source.now x.1.now)) result (cond_at (symbols source.now tokens.now)) }
 {
     let (first, rest) = atom_at(alloc, source, tokens)?;
@@ -135,7 +175,11 @@ fn cond_at<'t>(alloc: Global, source: &[u8], tokens: &'t [Token]) -> Result<(Vec
     Ok((atoms, rest))
 }
 
-fn more_atoms<'t>(alloc: Global, source: &[u8], tokens: &'t [Token]) -> Result<(Vec<AtomPart>, &'t [Token]), LineFault>
+fn more_atoms<'t>(
+    alloc: Global,
+    source: &[u8],
+    tokens: &'t [Token],
+) -> Result<(Vec<AtomPart>, &'t [Token]), LineFault>
     ensures { Gives (λ x. (x.0.items, symbols source.now x.1.now)) result (many (begins_word (codes "and")) and_at (length tokens.now) (symbols source.now tokens.now)) }
 {
     let mut atoms = Vec::new(alloc);
@@ -152,7 +196,11 @@ fn more_atoms<'t>(alloc: Global, source: &[u8], tokens: &'t [Token]) -> Result<(
 }
 
 #[tactic(auto, unfolding(crate::specs::Rules::if_at))]
-pub(crate) fn if_at<'t>(alloc: Global, source: &[u8], tokens: &'t [Token]) -> Result<(Vec<AtomPart>, &'t [Token]), LineFault>
+pub(crate) fn if_at<'t>(
+    alloc: Global,
+    source: &[u8],
+    tokens: &'t [Token],
+) -> Result<(Vec<AtomPart>, &'t [Token]), LineFault>
     ensures { Gives (λ x. (x.0.items, symbols source.now x.1.now)) result (if_at (symbols source.now tokens.now)) }
 {
     match word(source, b"if", tokens) {

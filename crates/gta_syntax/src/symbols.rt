@@ -105,7 +105,11 @@ pub(crate) fn begins_sign(source: &[u8], expected: &[u8], tokens: &[Token]) -> b
     sign(source, expected, tokens).is_some()
 }
 
-pub(crate) fn word_at<'t>(source: &[u8], expected: &[u8], tokens: &'t [Token]) -> Result<&'t [Token], LineFault>
+pub(crate) fn word_at<'t>(
+    source: &[u8],
+    expected: &[u8],
+    tokens: &'t [Token],
+) -> Result<&'t [Token], LineFault>
     ensures { Gives (λ rest. symbols source.now rest.now) result (word_at expected.now (symbols source.now tokens.now)) }
 {
     match word(source, expected, tokens) {
@@ -114,7 +118,11 @@ pub(crate) fn word_at<'t>(source: &[u8], expected: &[u8], tokens: &'t [Token]) -
     }
 }
 
-pub(crate) fn sign_at<'t>(source: &[u8], expected: &[u8], tokens: &'t [Token]) -> Result<&'t [Token], LineFault>
+pub(crate) fn sign_at<'t>(
+    source: &[u8],
+    expected: &[u8],
+    tokens: &'t [Token],
+) -> Result<&'t [Token], LineFault>
     ensures { Gives (λ rest. symbols source.now rest.now) result (sign_at expected.now (symbols source.now tokens.now)) }
 {
     match sign(source, expected, tokens) {
@@ -123,7 +131,10 @@ pub(crate) fn sign_at<'t>(source: &[u8], expected: &[u8], tokens: &'t [Token]) -
     }
 }
 
-pub(crate) fn digits_at<'t>(source: &[u8], tokens: &'t [Token]) -> Result<(u64, &'t [Token]), LineFault>
+pub(crate) fn digits_at<'t>(
+    source: &[u8],
+    tokens: &'t [Token],
+) -> Result<(u64, &'t [Token]), LineFault>
     ensures digits { Gives (λ x. (x.0, symbols source.now x.1.now)) result (digits_at (symbols source.now tokens.now)) }
     ensures within { IfOk result (λ x. x.0 ≤ NUMBER_BOUND + 1) }
 {
@@ -133,7 +144,11 @@ pub(crate) fn digits_at<'t>(source: &[u8], tokens: &'t [Token]) -> Result<(u64, 
     }
 }
 
-pub(crate) fn text_at<'t>(alloc: Global, source: &[u8], tokens: &'t [Token]) -> Result<(Name, &'t [Token]), LineFault>
+pub(crate) fn text_at<'t>(
+    alloc: Global,
+    source: &[u8],
+    tokens: &'t [Token],
+) -> Result<(Name, &'t [Token]), LineFault>
     ensures { Gives (λ x. (x.0, symbols source.now x.1.now)) result (text_at (symbols source.now tokens.now)) }
 {
     match text(source, tokens) {
@@ -142,7 +157,11 @@ pub(crate) fn text_at<'t>(alloc: Global, source: &[u8], tokens: &'t [Token]) -> 
     }
 }
 
-pub(crate) fn name_at<'t>(alloc: Global, source: &[u8], tokens: &'t [Token]) -> Result<(Name, &'t [Token]), LineFault>
+pub(crate) fn name_at<'t>(
+    alloc: Global,
+    source: &[u8],
+    tokens: &'t [Token],
+) -> Result<(Name, &'t [Token]), LineFault>
     ensures { Gives (λ x. (x.0, symbols source.now x.1.now)) result (name_at (symbols source.now tokens.now)) }
 {
     match word_of_name(source, tokens) {

@@ -18,7 +18,7 @@ returns-in_err-case c =
 pub loop-preserved : goal.loop-preserved
 loop-preserved c =
     let e : map case_tree c.push.new.self.items ≡ map case_tree c.loop.cases.items ++ case_tree c.in_ok-case.case ∷ [] =
-        rw c.in_ok-push.ensures.items (map_push _ c.loop.cases.items c.in_ok-case.case) in
+    rw c.in_ok-push.ensures.items (map_push _ c.loop.cases.items c.in_ok-case.case) in
     rw e (at_item c.loop.invariant (sym c.if-not-begins_sign.ensures) (length c.args.tokens.now - (c.loop.counter + 1)) (omega (arith, c.loop-test.true)) (case_tree c.in_ok-case.case) (symbols c.args.source.now c.in_ok-case.after.now) c.in_ok-case.ensures)
 
 pub returns : goal.returns

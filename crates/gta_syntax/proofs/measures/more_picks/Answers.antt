@@ -18,7 +18,7 @@ returns-in_err-pick c =
 pub loop-preserved : goal.loop-preserved
 loop-preserved c =
     let e : map pick_tree c.push.new.self.items ≡ map pick_tree c.loop.picks.items ++ pick_tree c.in_ok-pick.pick ∷ [] =
-        rw c.in_ok-push.ensures.items (map_push _ c.loop.picks.items c.in_ok-pick.pick) in
+    rw c.in_ok-push.ensures.items (map_push _ c.loop.picks.items c.in_ok-pick.pick) in
     rw e (at_item c.loop.invariant (sym c.if-not-begins_sign.ensures) (length c.args.tokens.now - (c.loop.counter + 1)) (omega (arith, c.loop-test.true)) (pick_tree c.in_ok-pick.pick) (symbols c.args.source.now c.in_ok-pick.after.now) c.in_ok-pick.ensures)
 
 pub returns : goal.returns

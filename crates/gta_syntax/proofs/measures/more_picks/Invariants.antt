@@ -1,4 +1,4 @@
-use Rattle.std.specs.Prelude.{◌≡◌, ◌-◌, length, map, codes}
+use Rattle.std.specs.Prelude.{◌-◌, length, map, codes}
 use Rattle.gta_syntax.specs.Parts.{pick_tree}
 use Rattle.gta_syntax.specs.Symbols.{symbols}
 use Rattle.gta_syntax.specs.Rules.{many, begins_sign, next_pick_at}

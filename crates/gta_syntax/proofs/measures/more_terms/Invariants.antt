@@ -1,4 +1,4 @@
-use Rattle.std.specs.Prelude.{◌≡◌, ◌-◌, length}
+use Rattle.std.specs.Prelude.{◌-◌, length}
 use Rattle.gta_syntax.specs.Symbols.{symbols}
 use Rattle.gta_syntax.specs.Rules.{many, begins_next_term, next_term_at}
 use Rattle.gta_syntax.proofs.Loops.{SoFar}

@@ -1,4 +1,4 @@
-use Rattle.std.specs.Prelude.{◌≡◌, map, drop}
+use Rattle.std.specs.Prelude.{map, drop}
 use Rattle.gta_text.specs.Text.{line_view}
 use Rattle.gta_syntax.specs.Parts.{part_tree}
 use Rattle.gta_syntax.specs.Refusals.{parts_from}

@@ -1,4 +1,4 @@
-use Rattle.std.specs.Prelude.{◌≡◌, ◌-◌, length, codes}
+use Rattle.std.specs.Prelude.{◌-◌, length, codes}
 use Rattle.gta_syntax.specs.Symbols.{symbols}
 use Rattle.gta_syntax.specs.Rules.{many, begins_word, and_at}
 use Rattle.gta_syntax.proofs.Loops.{SoFar}
