@@ -1,4 +1,6 @@
 pub mod Numbers
+pub mod Capped
 pub mod Names
 pub mod Lines
-pub mod Capped
+pub mod Tokens
+pub mod Text

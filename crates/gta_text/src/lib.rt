@@ -1,16 +1,21 @@
-//! Texts in bytes: names, numbers, lines and tokens.
+//! Texts in bytes: names, numbers, tokens and lines.
 //! A name is in src/name.rt, numbers are in src/numbers.rt, which words are names in src/words.rt,
-//! and lines in src/lines.rt.
+//! tokens in src/tokens.rt, and lines in src/lines.rt.
 #![tactic(auto)]
 
+mod fault;
 mod lines;
 mod name;
 mod numbers;
+mod token;
+mod tokens;
 mod words;
 
-pub use lines::first_line;
+pub use fault::TextFault;
+pub use lines::{INPUT_BOUND, Line, Lines, first_line, lines_of};
 pub use name::Name;
 pub use numbers::{NUMBER_BOUND, digits_value, field_value};
+pub use token::{Token, TokenKind};
 pub use words::is_name;
 
 #[cfg(test)]

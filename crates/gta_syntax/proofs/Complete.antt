@@ -1,0 +1,495 @@
+-- What is derived is read: a lemma for each rule, with a line for each alternative.
+use Rattle.std.proofs.Common.{◌≡◌, ℕ, ◌≤◌, ◌<◌, Bool, true, false, List, [], length, refl, sym, ap, ◌∙◌, arith}
+use Rattle.std.specs.Prelude.{ℤ, Some, None, codes}
+use Rattle.std.specs.Str.{bytes_eq}
+use Rattle.std.proofs.lemmas.Slice.Eq.{bytes_eq-Decides}
+use Rattle.shape_gen.specs.declared.shape.Shape.{Shape}
+use Rattle.gta_text.specs.Names.{is_reserved, is_name_text}
+use Rattle.gta_syntax.specs.declared.parts.ColumnItem.{ColumnItem}
+use Rattle.gta_syntax.specs.declared.parts.TermPart.{TermPart}
+use Rattle.gta_syntax.specs.declared.parts.AtomPart.{AtomPart}
+use Rattle.gta_syntax.specs.declared.parts.Cmp.{Cmp}
+use Rattle.gta_syntax.specs.declared.parts.Check.{Check}
+use Rattle.gta_syntax.specs.declared.parts.GoalPart.{GoalPart}
+use Rattle.gta_syntax.specs.Symbols.{Symbol}
+use Rattle.gta_syntax.specs.Parts.{CaseTree, PickTree, TestTree, KindTree}
+use Rattle.gta_syntax.specs.Grammar.{IsWord, IsSign, IsDigits, IsText, IsName, IsNames, IsNum, IsItem, IsCmp, IsAtom, IsAnd, IsCond, IsIf, IsTerm, IsFirstTerm, IsNextTerm, IsForm, IsCase, IsNextCase, IsCases, IsPick, IsNextPick, IsPicks, IsCheck, IsTest, IsShape, IsEnd, IsGoal, IsLine, IsPart, Listed, behind}
+use Rattle.gta_syntax.specs.Rules.{word_at, sign_at, digits_at, text_at, name_at, names_at, num_at, item_at, cmp_at, atom_at, and_at, cond_at, if_at, term_at, first_term_at, next_term_at, form_at, case_at, next_case_at, cases_at, pick_at, next_pick_at, picks_at, check_at, fold_at, test_at, shape_at, end_at, best_at, goal_at, measure_at, table_at, times_at, line_at, part_at, begins_name, begins_word, begins_sign, begins_next_term, list_at}
+use Rattle.gta_syntax.proofs.Again.{IsReadable, list_again, list_within}
+
+same : (xs : List ℕ) → bytes_eq xs xs ≡ true
+same xs = (bytes_eq-Decides xs xs).1 refl
+
+-- one symbol
+
+word_again : {w : List ℕ} {ts rest : List Symbol} → IsWord w ts rest → word_at w ts ≡ Some rest
+unfolding word_at
+word_again {w = w} e = rw (e, same w) refl
+
+sign_again : {s : List ℕ} {ts rest : List Symbol} → IsSign s ts rest → sign_at s ts ≡ Some rest
+unfolding sign_at
+sign_again {s = s} e = rw (e, same s) refl
+
+digits_again : {n : ℕ} {ts rest : List Symbol} → IsDigits n ts rest → digits_at ts ≡ Some (n, rest)
+unfolding digits_at
+digits_again e = rw e refl
+
+text_again : {x : List ℕ} {ts rest : List Symbol} → IsText x ts rest → text_at ts ≡ Some (x, rest)
+unfolding text_at
+text_again e = rw e refl
+
+name_again : {x : List ℕ} {ts rest : List Symbol} → IsName x ts rest → name_at ts ≡ Some (x, rest)
+unfolding name_at
+name_again n = rw (n.front, n.free) refl
+
+no_other_word : (w : List ℕ) {v : List ℕ} {ts rest : List Symbol} → IsWord v ts rest → bytes_eq v w ≡ false → word_at w ts ≡ None
+unfolding word_at
+no_other_word w e off = rw (e, off) refl
+
+no_other_sign : (s : List ℕ) {v : List ℕ} {ts rest : List Symbol} → IsSign v ts rest → bytes_eq v s ≡ false → sign_at s ts ≡ None
+unfolding sign_at
+no_other_sign s e off = rw (e, off) refl
+
+no_word_at_sign : (w : List ℕ) {s : List ℕ} {ts rest : List Symbol} → IsSign s ts rest → word_at w ts ≡ None
+unfolding word_at
+no_word_at_sign w e = rw e refl
+
+no_sign_at_word : (s : List ℕ) {w : List ℕ} {ts rest : List Symbol} → IsWord w ts rest → sign_at s ts ≡ None
+unfolding sign_at
+no_sign_at_word s e = rw e refl
+
+no_sign_at_digits : (s : List ℕ) {n : ℕ} {ts rest : List Symbol} → IsDigits n ts rest → sign_at s ts ≡ None
+unfolding sign_at
+no_sign_at_digits s e = rw e refl
+
+no_sign_at_name : (s : List ℕ) {x : List ℕ} {ts rest : List Symbol} → IsName x ts rest → sign_at s ts ≡ None
+no_sign_at_name s n = no_sign_at_word s n.front
+
+no_digits_at_name : {x : List ℕ} {ts rest : List Symbol} → IsName x ts rest → digits_at ts ≡ None
+unfolding digits_at
+no_digits_at_name n = rw n.front refl
+
+differ : (x w : List ℕ) → is_name_text x ≡ true → is_name_text w ≡ false → bytes_eq x w ≡ false
+differ x w free taken = elim (bytes_eq x w) as (λ b. bytes_eq x w ≡ b → b ≡ false)
+    [ true ↦ (λ e. absurd (clash ((bytes_eq-Decides x w).0 e))) | false ↦ (λ e. refl) ] refl
+  where
+    clash : x ≡ w → ⊥
+    clash e = let other : is_name_text w ≡ true = rw (sym e) free in let both : true ≡ false = sym other ∙ taken in absurd cc
+
+-- a reserved word is no name
+no_word_at_name : (w : List ℕ) {x : List ℕ} {ts rest : List Symbol} → IsName x ts rest → is_name_text w ≡ false → word_at w ts ≡ None
+no_word_at_name w {x = x} n taken = no_other_word w n.front (differ x w n.free taken)
+
+-- names
+
+name_shorter : {x : List ℕ} {ts rest : List Symbol} → IsName x ts rest → length rest < length ts
+name_shorter n = omega (arith, ap length n.front)
+
+names_readable : IsReadable IsName name_at begins_name (λ ts. Unit {0})
+names_readable = record {
+  again = λ x ts a n last. name_again n;
+  begun = λ x ts a n. rw (name_again n) refl;
+  goes_on = λ x ts a n. tt;
+  shorter = λ x ts a n. name_shorter n;
+}
+
+names_again : {xs : List (List ℕ)} {ts rest : List Symbol} → IsNames xs ts rest → begins_name rest ≡ false → names_at ts ≡ Some (xs, rest)
+names_again ns off = list_again names_readable (λ x ts a n last. name_again n) ns off tt
+
+-- columns
+
+item_again : {x : ColumnItem} {ts rest : List Symbol} → IsItem x ts rest → sign_at (codes "=") rest ≡ None → item_at ts ≡ Some (x, rest)
+unfolding item_at
+item_again (IsItem.bare n) off = rw (name_again n, off) refl
+item_again (IsItem.headed n s t) off = rw (name_again n, sign_again s, text_again t) refl
+
+item_begun : {x : ColumnItem} {ts rest : List Symbol} → IsItem x ts rest → begins_name ts ≡ true
+item_begun (IsItem.bare n) = rw (name_again n) refl
+item_begun (IsItem.headed n s t) = rw (name_again n) refl
+
+item_goes_on : {x : ColumnItem} {ts rest : List Symbol} → IsItem x ts rest → sign_at (codes "=") ts ≡ None
+item_goes_on (IsItem.bare n) = no_sign_at_name (codes "=") n
+item_goes_on (IsItem.headed n s t) = no_sign_at_name (codes "=") n
+
+item_shorter : {x : ColumnItem} {ts rest : List Symbol} → IsItem x ts rest → length rest < length ts
+item_shorter (IsItem.bare n) = name_shorter n
+item_shorter (IsItem.headed n s t) = omega (arith, ap length n.front, ap length s, ap length t)
+
+items_readable : IsReadable IsItem item_at begins_name (λ ts. sign_at (codes "=") ts ≡ None)
+items_readable = record {
+  again = λ x ts a d last. item_again d last;
+  begun = λ x ts a d. item_begun d;
+  goes_on = λ x ts a d. item_goes_on d;
+  shorter = λ x ts a d. item_shorter d;
+}
+
+items_again : {xs : List ColumnItem} {ts rest : List Symbol} → Listed IsItem IsItem xs ts rest → begins_name rest ≡ false → sign_at (codes "=") rest ≡ None
+    → list_at item_at begins_name item_at ts ≡ Some (xs, rest)
+items_again ds off last = list_again items_readable (λ x ts a d last. item_again d last) ds off last
+
+-- conditions
+
+num_again : {z : ℤ} {ts rest : List Symbol} → IsNum z ts rest → num_at ts ≡ Some (z, rest)
+unfolding num_at
+num_again (IsNum.plain d) = rw (no_sign_at_digits (codes "-") d, digits_again d) refl
+num_again (IsNum.minus s d) = rw (sign_again s, digits_again d) refl
+
+num_within : {z : ℤ} {ts rest : List Symbol} → IsNum z ts rest → length rest ≤ length ts
+num_within (IsNum.plain d) = omega (arith, ap length d)
+num_within (IsNum.minus s d) = omega (arith, ap length s, ap length d)
+
+cmp_again : {c : Cmp} {ts rest : List Symbol} → IsCmp c ts rest → cmp_at ts ≡ Some (c, rest)
+unfolding cmp_at
+cmp_again (IsCmp.at_most s) = rw (sign_again s) refl
+cmp_again (IsCmp.at_least s) = rw (no_other_sign (codes "<=") s refl, sign_again s) refl
+cmp_again (IsCmp.equal s) = rw (no_other_sign (codes "<=") s refl, no_other_sign (codes ">=") s refl, sign_again s) refl
+
+cmp_within : {c : Cmp} {ts rest : List Symbol} → IsCmp c ts rest → length rest ≤ length ts
+cmp_within (IsCmp.at_most s) = omega (arith, ap length s)
+cmp_within (IsCmp.at_least s) = omega (arith, ap length s)
+cmp_within (IsCmp.equal s) = omega (arith, ap length s)
+
+no_word_at_cmp : (w : List ℕ) {c : Cmp} {ts rest : List Symbol} → IsCmp c ts rest → word_at w ts ≡ None
+no_word_at_cmp w (IsCmp.at_most s) = no_word_at_sign w s
+no_word_at_cmp w (IsCmp.at_least s) = no_word_at_sign w s
+no_word_at_cmp w (IsCmp.equal s) = no_word_at_sign w s
+
+atom_again : {x : AtomPart} {ts rest : List Symbol} → IsAtom x ts rest → atom_at ts ≡ Some (x, rest)
+unfolding atom_at is_reserved
+atom_again (IsAtom.label w n) = rw (word_again w, name_again n) refl
+atom_again (IsAtom.column n c z) = rw (no_word_at_name (codes "label") n refl, name_again n, cmp_again c, num_again z) refl
+
+atom_within : {x : AtomPart} {ts rest : List Symbol} → IsAtom x ts rest → length rest ≤ length ts
+atom_within (IsAtom.label w n) = omega (arith, ap length w, name_shorter n)
+atom_within (IsAtom.column n c z) = omega (arith, name_shorter n, cmp_within c, num_within z)
+
+and_again : {x : AtomPart} {ts rest : List Symbol} → IsAnd x ts rest → and_at ts ≡ Some (x, rest)
+unfolding and_at
+and_again (behind w d) = rw (word_again w, atom_again d) refl
+
+and_begun : {x : AtomPart} {ts rest : List Symbol} → IsAnd x ts rest → begins_word (codes "and") ts ≡ true
+and_begun (behind w d) = rw (word_again w) refl
+
+and_shorter : {x : AtomPart} {ts rest : List Symbol} → IsAnd x ts rest → length rest < length ts
+and_shorter (behind w d) = omega (arith, ap length w, atom_within d)
+
+ands_readable : IsReadable IsAnd and_at (begins_word (codes "and")) (λ ts. Unit {0})
+ands_readable = record {
+  again = λ x ts a d last. and_again d;
+  begun = λ x ts a d. and_begun d;
+  goes_on = λ x ts a d. tt;
+  shorter = λ x ts a d. and_shorter d;
+}
+
+-- what may follow `[ "if" cond ]`
+record EndsIf (ts : List Symbol) : Type 0 where
+  no_if : word_at (codes "if") ts ≡ None
+  no_and : word_at (codes "and") ts ≡ None
+
+cond_again : {xs : List AtomPart} {ts rest : List Symbol} → IsCond xs ts rest → word_at (codes "and") rest ≡ None → cond_at ts ≡ Some (xs, rest)
+cond_again ds off = list_again ands_readable (λ x ts a d last. atom_again d) ds (rw off refl) tt
+
+if_again : {xs : List AtomPart} {ts rest : List Symbol} → IsIf xs ts rest → EndsIf rest → if_at ts ≡ Some (xs, rest)
+unfolding if_at
+if_again IsIf.always ends = rw ends.no_if refl
+if_again (IsIf.given w c) ends = rw (word_again w, cond_again c ends.no_and) refl
+
+if_within : {xs : List AtomPart} {ts rest : List Symbol} → IsIf xs ts rest → length rest ≤ length ts
+if_within IsIf.always = omega arith
+if_within (IsIf.given w c) = omega (arith, ap length w, list_within ands_readable (λ x ts a d. atom_within d) c)
+
+no_sign_at_if : (s : List ℕ) {xs : List AtomPart} {ts rest : List Symbol} → IsIf xs ts rest → sign_at s rest ≡ None → sign_at s ts ≡ None
+no_sign_at_if s IsIf.always off = off
+no_sign_at_if s (IsIf.given w c) off = no_sign_at_word s w
+
+-- forms
+
+term_again : {m : Bool} {x : TermPart} {ts rest : List Symbol} → IsTerm m x ts rest → sign_at (codes "*") rest ≡ None → term_at m ts ≡ Some (x, rest)
+unfolding term_at
+term_again (IsTerm.constant d) off = rw (digits_again d, off) refl
+term_again (IsTerm.column n) off = rw (no_digits_at_name n, name_again n) refl
+term_again (IsTerm.multiple d s n) off = rw (digits_again d, sign_again s, name_again n) refl
+
+no_sign_at_term : (s : List ℕ) {m : Bool} {x : TermPart} {ts rest : List Symbol} → IsTerm m x ts rest → sign_at s ts ≡ None
+no_sign_at_term s (IsTerm.constant d) = no_sign_at_digits s d
+no_sign_at_term s (IsTerm.column n) = no_sign_at_name s n
+no_sign_at_term s (IsTerm.multiple d t n) = no_sign_at_digits s d
+
+term_within : {m : Bool} {x : TermPart} {ts rest : List Symbol} → IsTerm m x ts rest → length rest ≤ length ts
+term_within (IsTerm.constant d) = omega (arith, ap length d)
+term_within (IsTerm.column n) = omega (arith, name_shorter n)
+term_within (IsTerm.multiple d s n) = omega (arith, ap length d, ap length s, name_shorter n)
+
+first_term_again : {x : TermPart} {ts rest : List Symbol} → IsFirstTerm x ts rest → sign_at (codes "*") rest ≡ None → first_term_at ts ≡ Some (x, rest)
+unfolding first_term_at
+first_term_again (IsFirstTerm.plain d) off = rw (no_sign_at_term (codes "-") d, term_again d off) refl
+first_term_again (IsFirstTerm.minus s d) off = rw (sign_again s, term_again d off) refl
+
+first_term_within : {x : TermPart} {ts rest : List Symbol} → IsFirstTerm x ts rest → length rest ≤ length ts
+first_term_within (IsFirstTerm.plain d) = term_within d
+first_term_within (IsFirstTerm.minus s d) = omega (arith, ap length s, term_within d)
+
+next_term_again : {x : TermPart} {ts rest : List Symbol} → IsNextTerm x ts rest → sign_at (codes "*") rest ≡ None → next_term_at ts ≡ Some (x, rest)
+unfolding next_term_at
+next_term_again (IsNextTerm.plus s d) off = rw (sign_again s, term_again d off) refl
+next_term_again (IsNextTerm.minus s d) off = rw (no_other_sign (codes "+") s refl, sign_again s, term_again d off) refl
+
+next_term_begun : {x : TermPart} {ts rest : List Symbol} → IsNextTerm x ts rest → begins_next_term ts ≡ true
+next_term_begun (IsNextTerm.plus s d) = rw (sign_again s) refl
+next_term_begun (IsNextTerm.minus s d) = rw (no_other_sign (codes "+") s refl, sign_again s) refl
+
+next_term_goes_on : {x : TermPart} {ts rest : List Symbol} → IsNextTerm x ts rest → sign_at (codes "*") ts ≡ None
+next_term_goes_on (IsNextTerm.plus s d) = no_other_sign (codes "*") s refl
+next_term_goes_on (IsNextTerm.minus s d) = no_other_sign (codes "*") s refl
+
+next_term_shorter : {x : TermPart} {ts rest : List Symbol} → IsNextTerm x ts rest → length rest < length ts
+next_term_shorter (IsNextTerm.plus s d) = omega (arith, ap length s, term_within d)
+next_term_shorter (IsNextTerm.minus s d) = omega (arith, ap length s, term_within d)
+
+terms_readable : IsReadable IsNextTerm next_term_at begins_next_term (λ ts. sign_at (codes "*") ts ≡ None)
+terms_readable = record {
+  again = λ x ts a d last. next_term_again d last;
+  begun = λ x ts a d. next_term_begun d;
+  goes_on = λ x ts a d. next_term_goes_on d;
+  shorter = λ x ts a d. next_term_shorter d;
+}
+
+form_again : {xs : List TermPart} {ts rest : List Symbol} → IsForm xs ts rest → sign_at (codes "+") rest ≡ None → sign_at (codes "-") rest ≡ None
+    → sign_at (codes "*") rest ≡ None → form_at ts ≡ Some (xs, rest)
+form_again ds no_plus no_minus no_star = list_again terms_readable (λ x ts a d last. first_term_again d last) ds (rw (no_plus, no_minus) refl) no_star
+
+-- cases
+
+-- what may follow a case
+record EndsCase (ts : List Symbol) : Type 0 where
+  no_plus : sign_at (codes "+") ts ≡ None
+  no_minus : sign_at (codes "-") ts ≡ None
+  no_star : sign_at (codes "*") ts ≡ None
+  ends_if : EndsIf ts
+
+case_again : {x : CaseTree} {ts rest : List Symbol} → IsCase x ts rest → EndsCase rest → case_at ts ≡ Some (x, rest)
+unfolding case_at
+case_again (IsCase.case f i) ends =
+    rw (
+      form_again f (no_sign_at_if (codes "+") i ends.no_plus) (no_sign_at_if (codes "-") i ends.no_minus) (no_sign_at_if (codes "*") i ends.no_star),
+      if_again i ends.ends_if,
+    ) refl
+
+case_within : {x : CaseTree} {ts rest : List Symbol} → IsCase x ts rest → length rest ≤ length ts
+case_within (IsCase.case f i) = omega (arith, list_within terms_readable (λ x ts a d. first_term_within d) f, if_within i)
+
+next_case_again : {x : CaseTree} {ts rest : List Symbol} → IsNextCase x ts rest → EndsCase rest → next_case_at ts ≡ Some (x, rest)
+unfolding next_case_at
+next_case_again (behind s d) ends = rw (sign_again s, case_again d ends) refl
+
+next_case_begun : {x : CaseTree} {ts rest : List Symbol} → IsNextCase x ts rest → begins_sign (codes ";") ts ≡ true
+next_case_begun (behind s d) = rw (sign_again s) refl
+
+next_case_goes_on : {x : CaseTree} {ts rest : List Symbol} → IsNextCase x ts rest → EndsCase ts
+next_case_goes_on (behind s d) = record {
+  no_plus = no_other_sign (codes "+") s refl;
+  no_minus = no_other_sign (codes "-") s refl;
+  no_star = no_other_sign (codes "*") s refl;
+  ends_if = record { no_if = no_word_at_sign (codes "if") s; no_and = no_word_at_sign (codes "and") s };
+}
+
+next_case_shorter : {x : CaseTree} {ts rest : List Symbol} → IsNextCase x ts rest → length rest < length ts
+next_case_shorter (behind s d) = omega (arith, ap length s, case_within d)
+
+cases_readable : IsReadable IsNextCase next_case_at (begins_sign (codes ";")) EndsCase
+cases_readable = record {
+  again = λ x ts a d last. next_case_again d last;
+  begun = λ x ts a d. next_case_begun d;
+  goes_on = λ x ts a d. next_case_goes_on d;
+  shorter = λ x ts a d. next_case_shorter d;
+}
+
+cases_again : {xs : List CaseTree} {ts rest : List Symbol} → IsCases xs ts rest → sign_at (codes ";") rest ≡ None → EndsCase rest → cases_at ts ≡ Some (xs, rest)
+cases_again ds off last = list_again cases_readable (λ x ts a d last. case_again d last) ds (rw off refl) last
+
+-- picks
+
+pick_again : {x : PickTree} {ts rest : List Symbol} → IsPick x ts rest → EndsIf rest → pick_at ts ≡ Some (x, rest)
+unfolding pick_at
+pick_again (IsPick.pick n i) ends = rw (name_again n, if_again i ends) refl
+
+next_pick_again : {x : PickTree} {ts rest : List Symbol} → IsNextPick x ts rest → EndsIf rest → next_pick_at ts ≡ Some (x, rest)
+unfolding next_pick_at
+next_pick_again (behind s d) ends = rw (sign_again s, pick_again d ends) refl
+
+next_pick_begun : {x : PickTree} {ts rest : List Symbol} → IsNextPick x ts rest → begins_sign (codes ";") ts ≡ true
+next_pick_begun (behind s d) = rw (sign_again s) refl
+
+next_pick_goes_on : {x : PickTree} {ts rest : List Symbol} → IsNextPick x ts rest → EndsIf ts
+next_pick_goes_on (behind s d) = record { no_if = no_word_at_sign (codes "if") s; no_and = no_word_at_sign (codes "and") s }
+
+pick_within : {x : PickTree} {ts rest : List Symbol} → IsPick x ts rest → length rest ≤ length ts
+pick_within (IsPick.pick n i) = omega (arith, name_shorter n, if_within i)
+
+next_pick_shorter : {x : PickTree} {ts rest : List Symbol} → IsNextPick x ts rest → length rest < length ts
+next_pick_shorter (behind s d) = omega (arith, ap length s, pick_within d)
+
+picks_readable : IsReadable IsNextPick next_pick_at (begins_sign (codes ";")) EndsIf
+picks_readable = record {
+  again = λ x ts a d last. next_pick_again d last;
+  begun = λ x ts a d. next_pick_begun d;
+  goes_on = λ x ts a d. next_pick_goes_on d;
+  shorter = λ x ts a d. next_pick_shorter d;
+}
+
+picks_again : {xs : List PickTree} {ts rest : List Symbol} → IsPicks xs ts rest → sign_at (codes ";") rest ≡ None → EndsIf rest → picks_at ts ≡ Some (xs, rest)
+picks_again ds off last = list_again picks_readable (λ x ts a d last. pick_again d last) ds (rw off refl) last
+
+-- tests
+
+check_again : {x : Check} {ts rest : List Symbol} → IsCheck x ts rest → check_at ts ≡ Some (x, rest)
+unfolding check_at
+check_again (IsCheck.compare c z) = rw (no_word_at_cmp (codes "mod") c, cmp_again c, num_again z) refl
+check_again (IsCheck.modulo w d s e) = rw (word_again w, digits_again d, sign_again s, digits_again e) refl
+
+test_again : {x : TestTree} {ts rest : List Symbol} → IsTest x ts rest → begins_name rest ≡ false → test_at ts ≡ Some (x, rest)
+unfolding test_at fold_at
+test_again (IsTest.sum w n k) off = rw (word_again w, name_again n, check_again k) refl
+test_again (IsTest.length w k) off = rw (no_other_word (codes "sum") w refl, word_again w, check_again k) refl
+test_again (IsTest.fold w n v p u e) off =
+    rw (
+      no_other_word (codes "sum") w refl,
+      no_other_word (codes "length") w refl,
+      word_again w,
+      name_again n,
+      word_again v,
+      picks_again p (no_sign_at_word (codes ";") u) (record { no_if = no_other_word (codes "if") u refl; no_and = no_other_word (codes "and") u refl }),
+      word_again u,
+      names_again e off,
+    ) refl
+
+-- shapes and goals
+
+shape_again : {x : Shape} {ts rest : List Symbol} → IsShape x ts rest → shape_at ts ≡ Some (x, rest)
+unfolding shape_at word_at
+shape_again (IsShape.sublists w) = rw w refl
+shape_again (IsShape.segments w) = rw w refl
+shape_again (IsShape.prefixes w) = rw w refl
+shape_again (IsShape.suffixes w) = rw w refl
+shape_again (IsShape.assign w) = rw w refl
+
+end_again : {x : Bool} {ts rest : List Symbol} → IsEnd x ts rest → end_at ts ≡ Some (x, rest)
+unfolding end_at word_at
+end_again (IsEnd.greatest w) = rw w refl
+end_again (IsEnd.least w) = rw w refl
+
+goal_again : {x : GoalPart} {ts rest : List Symbol} → IsGoal x ts rest → goal_at ts ≡ Some (x, rest)
+unfolding goal_at best_at
+goal_again (IsGoal.count w) = rw (word_again w) refl
+goal_again (IsGoal.any w) = rw (no_other_word (codes "count") w refl, word_again w) refl
+goal_again (IsGoal.max w n) = rw (no_other_word (codes "count") w refl, no_other_word (codes "any") w refl, word_again w, name_again n) refl
+goal_again (IsGoal.min w n) =
+    rw (no_other_word (codes "count") w refl, no_other_word (codes "any") w refl, no_other_word (codes "max") w refl, word_again w, name_again n) refl
+goal_again (IsGoal.best w d e n) =
+    rw (
+      no_other_word (codes "count") w refl,
+      no_other_word (codes "any") w refl,
+      no_other_word (codes "max") w refl,
+      no_other_word (codes "min") w refl,
+      word_again w,
+      digits_again d,
+      end_again e,
+      name_again n,
+    ) refl
+
+-- lines
+
+no_name_at_end : begins_name [] ≡ false
+unfolding name_at
+no_name_at_end = refl
+
+no_sign_at_end : (s : List ℕ) → sign_at s [] ≡ None
+unfolding sign_at
+no_sign_at_end s = refl
+
+no_word_at_end : (w : List ℕ) → word_at w [] ≡ None
+unfolding word_at
+no_word_at_end w = refl
+
+case_at_end : EndsCase []
+case_at_end = record {
+  no_plus = no_sign_at_end (codes "+");
+  no_minus = no_sign_at_end (codes "-");
+  no_star = no_sign_at_end (codes "*");
+  ends_if = record { no_if = no_word_at_end (codes "if"); no_and = no_word_at_end (codes "and") };
+}
+
+line_again : {x : KindTree} {ts : List Symbol} → IsLine x ts [] → line_at ts ≡ Some (x, [])
+unfolding line_at measure_at table_at times_at
+line_again (IsLine.columns w d) = rw (word_again w, items_again d no_name_at_end (no_sign_at_end (codes "="))) refl
+line_again (IsLine.labels w d) = rw (no_other_word (codes "columns") w refl, word_again w, names_again d no_name_at_end) refl
+line_again (IsLine.measure w n s d) =
+    rw (
+      no_other_word (codes "columns") w refl,
+      no_other_word (codes "labels") w refl,
+      word_again w,
+      name_again n,
+      sign_again s,
+      cases_again d (no_sign_at_end (codes ";")) case_at_end,
+    ) refl
+line_again (IsLine.table w n u m v d) =
+    rw (
+      no_other_word (codes "columns") w refl,
+      no_other_word (codes "labels") w refl,
+      no_other_word (codes "measure") w refl,
+      word_again w,
+      name_again n,
+      word_again u,
+      name_again m,
+      word_again v,
+      names_again d no_name_at_end,
+    ) refl
+line_again (IsLine.times w n m s d) =
+    rw (
+      no_other_word (codes "columns") w refl,
+      no_other_word (codes "labels") w refl,
+      no_other_word (codes "measure") w refl,
+      no_other_word (codes "table") w refl,
+      word_again w,
+      name_again n,
+      name_again m,
+      sign_again s,
+      names_again d no_name_at_end,
+    ) refl
+line_again (IsLine.generate w d) =
+    rw (
+      no_other_word (codes "columns") w refl,
+      no_other_word (codes "labels") w refl,
+      no_other_word (codes "measure") w refl,
+      no_other_word (codes "table") w refl,
+      no_other_word (codes "times") w refl,
+      word_again w,
+      shape_again d,
+    ) refl
+line_again (IsLine.test w d) =
+    rw (
+      no_other_word (codes "columns") w refl,
+      no_other_word (codes "labels") w refl,
+      no_other_word (codes "measure") w refl,
+      no_other_word (codes "table") w refl,
+      no_other_word (codes "times") w refl,
+      no_other_word (codes "generate") w refl,
+      word_again w,
+      test_again d no_name_at_end,
+    ) refl
+line_again (IsLine.aggregate w d) =
+    rw (
+      no_other_word (codes "columns") w refl,
+      no_other_word (codes "labels") w refl,
+      no_other_word (codes "measure") w refl,
+      no_other_word (codes "table") w refl,
+      no_other_word (codes "times") w refl,
+      no_other_word (codes "generate") w refl,
+      no_other_word (codes "test") w refl,
+      word_again w,
+      goal_again d,
+    ) refl
+
+pub part_again : {x : KindTree} {ts : List Symbol} → IsPart x ts → part_at ts ≡ Some x
+unfolding part_at
+part_again d = rw (line_again d) refl

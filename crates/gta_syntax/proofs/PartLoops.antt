@@ -1,0 +1,81 @@
+-- Reading the parts of lines one after the other, as a loop does.
+use Rattle.std.proofs.Common.{◌≡◌, ℕ, suc, ◌+◌, ◌<◌, true, false, length, drop, get_or, drop-cons, add-one, List, [], ◌∷◌, ◌++◌, refl, sym, ap, ◌∙◌, append_assoc}
+use Rattle.std.proofs.lemmas.List.{append-nil}
+use Rattle.std.specs.Prelude.{Some, None, Result, Ok, Err}
+use Rattle.gta_text.specs.Text.{Numbered}
+use Rattle.gta_syntax.specs.declared.fault.SpecFault.{SpecFault}
+use Rattle.gta_syntax.specs.declared.fault.SpecFault.TheVariants.{Byte, Version, Grammar, Number, NoRows, Memory}
+use Rattle.gta_syntax.specs.Parts.{PartTree}
+use Rattle.gta_syntax.specs.Symbols.{symbols}
+use Rattle.gta_syntax.specs.Rules.{part_at}
+use Rattle.gta_syntax.specs.SpecText.{has_past}
+use Rattle.gta_syntax.specs.Refusals.{first_past, the_part, with_part, parts_from, Refuses}
+
+pub drop_at : {A : Type 0} (xs : List A) (i : ℕ) (x : A) → i < length xs → x ≡ get_or xs i x → drop i xs ≡ x ∷ drop (i + 1) xs
+drop_at xs i x lt is = rw (add-one, drop-cons xs i x) (ap (λ y. y ∷ drop (suc i) xs) (sym is))
+
+pub past_here : (source : List ℕ) (line : Numbered) (lines : List Numbered) → has_past source line.tokens ≡ true
+    → first_past source (line ∷ lines) ≡ Some line.number
+unfolding first_past
+past_here source line lines on = rw on refl
+
+pub past_later : (source : List ℕ) (line : Numbered) (lines : List Numbered) → has_past source line.tokens ≡ false
+    → first_past source (line ∷ lines) ≡ first_past source lines
+unfolding first_past
+past_later source line lines off = rw off refl
+
+pub past_nowhere : (source : List ℕ) → first_past source [] ≡ None
+unfolding first_past
+past_nowhere source = refl
+
+abbrev pub with_front : List PartTree → Result (List PartTree) SpecFault → Result (List PartTree) SpecFault
+with_front front (Ok parts) = Ok (front ++ parts)
+with_front front (Err fault) = Err fault
+
+-- the parts read so far, and those of the lines that are left, are the whole
+pub record PartsSoFar (source : List ℕ) (front : List PartTree) (lines : List Numbered) (whole : Result (List PartTree) SpecFault) : Type 0 where
+  pub joined : with_front front (parts_from source lines) ≡ whole
+
+no_front : (parts : Result (List PartTree) SpecFault) → with_front [] parts ≡ parts
+no_front (Ok parts) = refl
+no_front (Err fault) = refl
+
+regroup : (front : List PartTree) (part : PartTree) (parts : Result (List PartTree) SpecFault)
+    → with_front front (with_part (Ok part) parts) ≡ with_front (front ++ part ∷ []) parts
+regroup front part (Ok parts) = simp append_assoc
+regroup front part (Err fault) = refl
+
+pub parts_at_start : (source : List ℕ) (lines : List Numbered) → PartsSoFar source [] lines (parts_from source lines)
+parts_at_start source lines = record { joined = no_front (parts_from source lines) }
+
+pub parts_at_end : {source : List ℕ} {front : List PartTree} {whole : Result (List PartTree) SpecFault}
+    → PartsSoFar source front [] whole → whole ≡ Ok front
+unfolding parts_from
+parts_at_end {source = source} {front = front} so_far =
+    let one : with_front front (parts_from source []) ≡ Ok front = rw (append-nil front) refl in
+    sym so_far.joined ∙ one
+
+pub parts_at_line : {source : List ℕ} {front : List PartTree} {line : Numbered} {lines : List Numbered} {whole : Result (List PartTree) SpecFault}
+    → PartsSoFar source front (line ∷ lines) whole → (part : PartTree) → the_part line.number (part_at (symbols source line.tokens)) ≡ Ok part
+    → PartsSoFar source (front ++ part ∷ []) lines whole
+unfolding parts_from
+parts_at_line {source = source} {front = front} {line = line} {lines = lines} so_far part is =
+    let one : with_front front (parts_from source (line ∷ lines)) ≡ with_front (front ++ part ∷ []) (parts_from source lines) =
+    rw is (regroup front part (parts_from source lines)) in
+    record { joined = sym one ∙ so_far.joined }
+
+parts_at_refusal : {source : List ℕ} {front : List PartTree} {line : Numbered} {lines : List Numbered} {whole : Result (List PartTree) SpecFault}
+    → PartsSoFar source front (line ∷ lines) whole → (fault : SpecFault) → the_part line.number (part_at (symbols source line.tokens)) ≡ Err fault → whole ≡ Err fault
+unfolding parts_from
+parts_at_refusal {source = source} {front = front} {line = line} {lines = lines} so_far fault is =
+    let one : with_front front (parts_from source (line ∷ lines)) ≡ Err fault = rw is refl in
+    sym so_far.joined ∙ one
+
+pub parts_at_fault : {source : List ℕ} {front : List PartTree} {line : Numbered} {lines : List Numbered} {whole : Result (List PartTree) SpecFault}
+    → PartsSoFar source front (line ∷ lines) whole → (fault : SpecFault) → Refuses fault (the_part line.number (part_at (symbols source line.tokens))) → Refuses fault whole
+parts_at_fault so_far (Byte l p) is = parts_at_refusal so_far _ is
+parts_at_fault so_far (Version l) is = parts_at_refusal so_far _ is
+parts_at_fault so_far (Grammar l) is = parts_at_refusal so_far _ is
+parts_at_fault so_far (Number l) is = parts_at_refusal so_far _ is
+parts_at_fault so_far NoRows is = parts_at_refusal so_far _ is
+parts_at_fault so_far Memory is = tt

@@ -1,0 +1,222 @@
+-- What is read is derived: a lemma for each rule, with a line for each alternative.
+use Rattle.std.proofs.Common.{◌≡◌, ℕ, Bool, true, false, List, [], ◌∷◌, refl, ap}
+use Rattle.std.specs.Prelude.{Some, None, codes, cond}
+use Rattle.std.specs.Str.{bytes_eq}
+use Rattle.std.proofs.lemmas.Slice.Eq.{bytes_eq-Decides}
+use Rattle.gta_text.specs.Names.{is_name_text}
+use Rattle.gta_syntax.specs.Symbols.{Symbol, Word, Digits, Text, Sign, Stray}
+use Rattle.gta_syntax.specs.Parts.{KindTree}
+use Rattle.gta_syntax.specs.Grammar.{IsWord, IsSign, IsDigits, IsText, IsName, IsNames, IsNum, IsItem, IsCmp, IsAtom, IsAnd, IsCond, IsIf, IsTerm, IsFirstTerm, IsNextTerm, IsForm, IsCase, IsNextCase, IsCases, IsPick, IsNextPick, IsPicks, IsCheck, IsTest, IsShape, IsEnd, IsGoal, IsLine, IsPart, behind}
+use Rattle.gta_syntax.specs.Rules.{word_at, sign_at, digits_at, text_at, name_at, names_at, num_at, item_at, cmp_at, atom_at, and_at, cond_at, if_at, term_at, first_term_at, next_term_at, form_at, case_at, next_case_at, cases_at, pick_at, next_pick_at, picks_at, check_at, fold_at, test_at, shape_at, end_at, best_at, goal_at, measure_at, table_at, times_at, line_at, part_at, ended_by}
+use Rattle.gta_syntax.proofs.Each.{Each, done, nothing, and_then, either, then_is, list_takes}
+
+same_bytes : (xs ys : List ℕ) → bytes_eq xs ys ≡ true → xs ≡ ys
+same_bytes xs ys e = (bytes_eq-Decides xs ys).0 e
+
+-- a test, and then a value or none
+when : {A : Type 0} {P : A → Type 0} (x : A) (b : Bool) → (b ≡ true → P x) → Each (cond b (Some x) None) P
+when x true p = done (p refl)
+when x false p = nothing
+
+word_takes : (w : List ℕ) (ts : List Symbol) → Each (word_at w ts) (λ rest. IsWord w ts rest)
+unfolding word_at
+word_takes w [] = nothing
+word_takes w (Word x ∷ rest) = when rest (bytes_eq x w) (λ e. ap (λ y. Word y ∷ rest) (same_bytes x w e))
+word_takes w (Digits n ∷ rest) = nothing
+word_takes w (Text x ∷ rest) = nothing
+word_takes w (Sign s ∷ rest) = nothing
+word_takes w (Stray ∷ rest) = nothing
+
+sign_takes : (s : List ℕ) (ts : List Symbol) → Each (sign_at s ts) (λ rest. IsSign s ts rest)
+unfolding sign_at
+sign_takes s [] = nothing
+sign_takes s (Word x ∷ rest) = nothing
+sign_takes s (Digits n ∷ rest) = nothing
+sign_takes s (Text x ∷ rest) = nothing
+sign_takes s (Sign x ∷ rest) = when rest (bytes_eq x s) (λ e. ap (λ y. Sign y ∷ rest) (same_bytes x s e))
+sign_takes s (Stray ∷ rest) = nothing
+
+digits_takes : (ts : List Symbol) → Each (digits_at ts) (λ x. IsDigits x.0 ts x.1)
+unfolding digits_at
+digits_takes [] = nothing
+digits_takes (Word x ∷ rest) = nothing
+digits_takes (Digits n ∷ rest) = done refl
+digits_takes (Text x ∷ rest) = nothing
+digits_takes (Sign x ∷ rest) = nothing
+digits_takes (Stray ∷ rest) = nothing
+
+text_takes : (ts : List Symbol) → Each (text_at ts) (λ x. IsText x.0 ts x.1)
+unfolding text_at
+text_takes [] = nothing
+text_takes (Word x ∷ rest) = nothing
+text_takes (Digits n ∷ rest) = nothing
+text_takes (Text x ∷ rest) = done refl
+text_takes (Sign x ∷ rest) = nothing
+text_takes (Stray ∷ rest) = nothing
+
+name_takes : (ts : List Symbol) → Each (name_at ts) (λ x. IsName x.0 ts x.1)
+unfolding name_at
+name_takes [] = nothing
+name_takes (Word x ∷ rest) = when (x, rest) (is_name_text x) (λ e. record { front = refl; free = e })
+name_takes (Digits n ∷ rest) = nothing
+name_takes (Text x ∷ rest) = nothing
+name_takes (Sign x ∷ rest) = nothing
+name_takes (Stray ∷ rest) = nothing
+
+names_takes : (ts : List Symbol) → Each (names_at ts) (λ xs. IsNames xs.0 ts xs.1)
+names_takes ts = list_takes _ name_takes name_takes ts
+
+num_takes : (ts : List Symbol) → Each (num_at ts) (λ z. IsNum z.0 ts z.1)
+unfolding num_at
+num_takes ts = either (sign_takes (codes "-") ts)
+    (λ a s. and_then (digits_takes a) (λ n d. done (IsNum.minus s d)))
+    (and_then (digits_takes ts) (λ n d. done (IsNum.plain d)))
+
+item_takes : (ts : List Symbol) → Each (item_at ts) (λ x. IsItem x.0 ts x.1)
+unfolding item_at
+item_takes ts = and_then (name_takes ts) (λ x n. either (sign_takes (codes "=") x.1)
+    (λ a s. and_then (text_takes a) (λ t d. done (IsItem.headed n s d)))
+    (done (IsItem.bare n)))
+
+cmp_takes : (ts : List Symbol) → Each (cmp_at ts) (λ c. IsCmp c.0 ts c.1)
+unfolding cmp_at
+cmp_takes ts = either (sign_takes (codes "<=") ts) (λ a s. done (IsCmp.at_most s))
+    (either (sign_takes (codes ">=") ts) (λ a s. done (IsCmp.at_least s))
+    (and_then (sign_takes (codes "=") ts) (λ a s. done (IsCmp.equal s))))
+
+atom_takes : (ts : List Symbol) → Each (atom_at ts) (λ x. IsAtom x.0 ts x.1)
+unfolding atom_at
+atom_takes ts = either (word_takes (codes "label") ts)
+    (λ a w. and_then (name_takes a) (λ x n. done (IsAtom.label w n)))
+    (and_then (name_takes ts) (λ x n. and_then (cmp_takes x.1) (λ c k. and_then (num_takes c.1) (λ z d. done (IsAtom.column n k d)))))
+
+and_takes : (ts : List Symbol) → Each (and_at ts) (λ x. IsAnd x.0 ts x.1)
+unfolding and_at
+and_takes ts = and_then (word_takes (codes "and") ts) (λ a w. then_is (atom_takes a) (λ x d. behind w d))
+
+cond_takes : (ts : List Symbol) → Each (cond_at ts) (λ xs. IsCond xs.0 ts xs.1)
+cond_takes ts = list_takes _ atom_takes and_takes ts
+
+if_takes : (ts : List Symbol) → Each (if_at ts) (λ xs. IsIf xs.0 ts xs.1)
+unfolding if_at
+if_takes ts = either (word_takes (codes "if") ts) (λ a w. then_is (cond_takes a) (λ xs d. IsIf.given w d)) (done IsIf.always)
+
+term_takes : (minus : Bool) (ts : List Symbol) → Each (term_at minus ts) (λ x. IsTerm minus x.0 ts x.1)
+unfolding term_at
+term_takes minus ts = either (digits_takes ts)
+    (λ n d. either (sign_takes (codes "*") n.1)
+    (λ a s. and_then (name_takes a) (λ x m. done (IsTerm.multiple d s m)))
+    (done (IsTerm.constant d)))
+    (and_then (name_takes ts) (λ x m. done (IsTerm.column m)))
+
+first_term_takes : (ts : List Symbol) → Each (first_term_at ts) (λ x. IsFirstTerm x.0 ts x.1)
+unfolding first_term_at
+first_term_takes ts = either (sign_takes (codes "-") ts) (λ a s. then_is (term_takes true a) (λ x d. IsFirstTerm.minus s d))
+    (then_is (term_takes false ts) (λ x d. IsFirstTerm.plain d))
+
+next_term_takes : (ts : List Symbol) → Each (next_term_at ts) (λ x. IsNextTerm x.0 ts x.1)
+unfolding next_term_at
+next_term_takes ts = either (sign_takes (codes "+") ts) (λ a s. then_is (term_takes false a) (λ x d. IsNextTerm.plus s d))
+    (and_then (sign_takes (codes "-") ts) (λ a s. then_is (term_takes true a) (λ x d. IsNextTerm.minus s d)))
+
+form_takes : (ts : List Symbol) → Each (form_at ts) (λ xs. IsForm xs.0 ts xs.1)
+form_takes ts = list_takes _ first_term_takes next_term_takes ts
+
+case_takes : (ts : List Symbol) → Each (case_at ts) (λ x. IsCase x.0 ts x.1)
+unfolding case_at
+case_takes ts = and_then (form_takes ts) (λ xs f. and_then (if_takes xs.1) (λ ys d. done (IsCase.case f d)))
+
+next_case_takes : (ts : List Symbol) → Each (next_case_at ts) (λ x. IsNextCase x.0 ts x.1)
+unfolding next_case_at
+next_case_takes ts = and_then (sign_takes (codes ";") ts) (λ a s. then_is (case_takes a) (λ x d. behind s d))
+
+cases_takes : (ts : List Symbol) → Each (cases_at ts) (λ xs. IsCases xs.0 ts xs.1)
+cases_takes ts = list_takes _ case_takes next_case_takes ts
+
+pick_takes : (ts : List Symbol) → Each (pick_at ts) (λ x. IsPick x.0 ts x.1)
+unfolding pick_at
+pick_takes ts = and_then (name_takes ts) (λ x n. and_then (if_takes x.1) (λ ys d. done (IsPick.pick n d)))
+
+next_pick_takes : (ts : List Symbol) → Each (next_pick_at ts) (λ x. IsNextPick x.0 ts x.1)
+unfolding next_pick_at
+next_pick_takes ts = and_then (sign_takes (codes ";") ts) (λ a s. then_is (pick_takes a) (λ x d. behind s d))
+
+picks_takes : (ts : List Symbol) → Each (picks_at ts) (λ xs. IsPicks xs.0 ts xs.1)
+picks_takes ts = list_takes _ pick_takes next_pick_takes ts
+
+check_takes : (ts : List Symbol) → Each (check_at ts) (λ x. IsCheck x.0 ts x.1)
+unfolding check_at
+check_takes ts = either (word_takes (codes "mod") ts)
+    (λ a w. and_then (digits_takes a) (λ m d. and_then (sign_takes (codes "=") m.1) (λ b s. and_then (digits_takes b) (λ r e. done (IsCheck.modulo w d s e)))))
+    (and_then (cmp_takes ts) (λ c k. and_then (num_takes c.1) (λ z d. done (IsCheck.compare k d))))
+
+fold_takes : (ts : List Symbol) → Each (fold_at ts) (λ x. (a : List Symbol) → IsWord (codes "fold") a ts → IsTest x.0 a x.1)
+unfolding fold_at
+fold_takes ts = and_then (name_takes ts) (λ x n. and_then (word_takes (codes "by") x.1) (λ a w. and_then (picks_takes a) (λ ps p.
+    and_then (word_takes (codes "accept") ps.1) (λ b v. and_then (names_takes b) (λ es e. done (λ t f. IsTest.fold f n w p v e))))))
+
+test_takes : (ts : List Symbol) → Each (test_at ts) (λ x. IsTest x.0 ts x.1)
+unfolding test_at
+test_takes ts = either (word_takes (codes "sum") ts)
+    (λ a w. and_then (name_takes a) (λ x n. and_then (check_takes x.1) (λ k d. done (IsTest.sum w n d))))
+    (either (word_takes (codes "length") ts)
+    (λ a w. and_then (check_takes a) (λ k d. done (IsTest.length w d)))
+    (and_then (word_takes (codes "fold") ts) (λ a w. then_is (fold_takes a) (λ x d. d ts w))))
+
+shape_takes : (ts : List Symbol) → Each (shape_at ts) (λ x. IsShape x.0 ts x.1)
+unfolding shape_at
+shape_takes ts = either (word_takes (codes "sublists") ts) (λ a w. done (IsShape.sublists w))
+    (either (word_takes (codes "segments") ts) (λ a w. done (IsShape.segments w))
+    (either (word_takes (codes "prefixes") ts) (λ a w. done (IsShape.prefixes w))
+    (either (word_takes (codes "suffixes") ts) (λ a w. done (IsShape.suffixes w))
+    (and_then (word_takes (codes "assign") ts) (λ a w. done (IsShape.assign w))))))
+
+end_takes : (ts : List Symbol) → Each (end_at ts) (λ x. IsEnd x.0 ts x.1)
+unfolding end_at
+end_takes ts = either (word_takes (codes "max") ts) (λ a w. done (IsEnd.greatest w))
+    (and_then (word_takes (codes "min") ts) (λ a w. done (IsEnd.least w)))
+
+best_takes : (ts : List Symbol) → Each (best_at ts) (λ x. (a : List Symbol) → IsWord (codes "best") a ts → IsGoal x.0 a x.1)
+unfolding best_at
+best_takes ts = and_then (digits_takes ts) (λ k d. and_then (end_takes k.1) (λ e f. and_then (name_takes e.1) (λ x n. done (λ a w. IsGoal.best w d f n))))
+
+goal_takes : (ts : List Symbol) → Each (goal_at ts) (λ x. IsGoal x.0 ts x.1)
+unfolding goal_at
+goal_takes ts = either (word_takes (codes "count") ts) (λ a w. done (IsGoal.count w))
+    (either (word_takes (codes "any") ts) (λ a w. done (IsGoal.any w))
+    (either (word_takes (codes "max") ts) (λ a w. and_then (name_takes a) (λ x n. done (IsGoal.max w n)))
+    (either (word_takes (codes "min") ts) (λ a w. and_then (name_takes a) (λ x n. done (IsGoal.min w n)))
+    (and_then (word_takes (codes "best") ts) (λ a w. then_is (best_takes a) (λ x d. d ts w))))))
+
+measure_takes : (ts : List Symbol) → Each (measure_at ts) (λ x. (a : List Symbol) → IsWord (codes "measure") a ts → IsLine x.0 a x.1)
+unfolding measure_at
+measure_takes ts = and_then (name_takes ts) (λ x n. and_then (sign_takes (codes "=") x.1) (λ a s. and_then (cases_takes a) (λ ks k. done (λ t w. IsLine.measure w n s k))))
+
+table_takes : (ts : List Symbol) → Each (table_at ts) (λ x. (a : List Symbol) → IsWord (codes "table") a ts → IsLine x.0 a x.1)
+unfolding table_at
+table_takes ts = and_then (name_takes ts) (λ x n. and_then (word_takes (codes "unit") x.1) (λ a u. and_then (name_takes a) (λ y m.
+    and_then (word_takes (codes "elements") y.1) (λ b v. and_then (names_takes b) (λ es e. done (λ t w. IsLine.table w n u m v e))))))
+
+times_takes : (ts : List Symbol) → Each (times_at ts) (λ x. (a : List Symbol) → IsWord (codes "times") a ts → IsLine x.0 a x.1)
+unfolding times_at
+times_takes ts = and_then (name_takes ts) (λ x n. and_then (name_takes x.1) (λ y m. and_then (sign_takes (codes "=") y.1) (λ a s.
+    and_then (names_takes a) (λ ps p. done (λ t w. IsLine.times w n m s p)))))
+
+line_takes : (ts : List Symbol) → Each (line_at ts) (λ x. IsLine x.0 ts x.1)
+unfolding line_at
+line_takes ts = either (word_takes (codes "columns") ts) (λ a w. and_then (list_takes _ item_takes item_takes a) (λ xs d. done (IsLine.columns w d)))
+    (either (word_takes (codes "labels") ts) (λ a w. and_then (names_takes a) (λ xs d. done (IsLine.labels w d)))
+    (either (word_takes (codes "measure") ts) (λ a w. then_is (measure_takes a) (λ x d. d ts w))
+    (either (word_takes (codes "table") ts) (λ a w. then_is (table_takes a) (λ x d. d ts w))
+    (either (word_takes (codes "times") ts) (λ a w. then_is (times_takes a) (λ x d. d ts w))
+    (either (word_takes (codes "generate") ts) (λ a w. and_then (shape_takes a) (λ s d. done (IsLine.generate w d)))
+    (either (word_takes (codes "test") ts) (λ a w. and_then (test_takes a) (λ t d. done (IsLine.test w d)))
+    (and_then (word_takes (codes "aggregate") ts) (λ a w. and_then (goal_takes a) (λ x d. done (IsLine.aggregate w d))))))))))
+
+ended_takes : (x : KindTree) (ts rest : List Symbol) → IsLine x ts rest → Each (ended_by x rest) (λ y. IsPart y ts)
+ended_takes x ts [] d = done d
+ended_takes x ts (t ∷ more) d = nothing
+
+pub part_takes : (ts : List Symbol) → Each (part_at ts) (λ x. IsPart x ts)
+unfolding part_at
+part_takes ts = and_then (line_takes ts) (λ x d. ended_takes x.0 ts x.1 d)

@@ -1,0 +1,124 @@
+//! The parts of a specification, as its lines say them. Names are not resolved here.
+
+use gta_text::Name;
+use shape_gen::Shape;
+
+/// A specification: the version of the language, and its parts in order.
+#[derive(Debug, Drop)]
+pub struct Spec {
+    pub version: u8,
+    pub parts: Vec<Part>,
+}
+
+/// What one line says. Lines are numbered from 1.
+#[derive(Debug, Drop)]
+pub struct Part {
+    pub line: u32,
+    pub kind: PartKind,
+}
+
+#[derive(Debug, Drop)]
+pub enum PartKind {
+    Columns(Vec<ColumnItem>),
+    Labels(Vec<Name>),
+    Measure(MeasurePart),
+    Table(TablePart),
+    Times(TimesPart),
+    Generate(Shape),
+    Test(TestPart),
+    Aggregate(GoalPart),
+}
+
+/// A column, and the text of its header where that is not its name.
+#[derive(Debug, Drop)]
+pub struct ColumnItem {
+    pub name: Name,
+    pub header: Option<Name>,
+}
+
+#[derive(Debug, Drop)]
+pub struct MeasurePart {
+    pub name: Name,
+    pub cases: Vec<CasePart>,
+}
+
+/// A linear form, and the atoms of its condition. No atoms: no condition was written.
+#[derive(Debug, Drop)]
+pub struct CasePart {
+    pub form: Vec<TermPart>,
+    pub cond: Vec<AtomPart>,
+}
+
+/// A number, a column, or a number times a column, and whether a minus stands before it.
+#[derive(Debug, Drop)]
+pub struct TermPart {
+    pub minus: bool,
+    pub number: Option<u64>,
+    pub name: Option<Name>,
+}
+
+#[derive(Debug, Drop)]
+pub enum AtomPart {
+    Label(Name),
+    Column { name: Name, cmp: Cmp, number: i64 },
+}
+
+#[derive(Clone, Copy, Debug, PartialEq, Eq)]
+pub enum Cmp {
+    AtMost,
+    AtLeast,
+    Equal,
+}
+
+#[derive(Debug, Drop)]
+pub struct TablePart {
+    pub name: Name,
+    pub unit: Name,
+    pub elements: Vec<Name>,
+}
+
+/// The products of an element with each element of its table, in the table's order.
+#[derive(Debug, Drop)]
+pub struct TimesPart {
+    pub table: Name,
+    pub element: Name,
+    pub products: Vec<Name>,
+}
+
+#[derive(Debug, Drop)]
+pub enum TestPart {
+    Sum {
+        name: Name,
+        check: Check,
+    },
+    Length {
+        check: Check,
+    },
+    Fold {
+        table: Name,
+        picks: Vec<PickPart>,
+        accept: Vec<Name>,
+    },
+}
+
+#[derive(Clone, Copy, Debug, PartialEq, Eq)]
+pub enum Check {
+    Compare { cmp: Cmp, number: i64 },
+    Mod { modulus: u64, residue: u64 },
+}
+
+/// An element, and the atoms of its condition. No atoms: no condition was written.
+#[derive(Debug, Drop)]
+pub struct PickPart {
+    pub element: Name,
+    pub cond: Vec<AtomPart>,
+}
+
+#[derive(Debug, Drop)]
+pub enum GoalPart {
+    Count,
+    Any,
+    Max(Name),
+    Min(Name),
+    Best { k: u64, greatest: bool, name: Name },
+}

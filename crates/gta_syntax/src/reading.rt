@@ -1,0 +1,133 @@
+//! Reading a specification. Which specification a text is, is in specs/SpecText.antt, and the
+//! refusals in their order are in specs/Refusals.antt.
+ghost use Rattle.std.specs.Prelude.{◌≡◌, ◌≢◌, ℕ, ◌≤◌, length, map, Ok, Err, IfOk, IsErrOf};
+ghost use Rattle.gta_text.specs.Text.{line_view};
+ghost use Rattle.gta_text.specs.declared.lines.TheConstants.{INPUT_BOUND};
+ghost use Rattle.gta_syntax.specs.Parts.{part_tree, SpecTree, spec_tree};
+ghost use Rattle.gta_syntax.specs.Symbols.{symbols};
+ghost use Rattle.gta_syntax.specs.Rules.{part_at};
+ghost use Rattle.gta_syntax.specs.SpecText.{SpecText, is_version, is_past, has_past};
+ghost use Rattle.gta_syntax.specs.Symbols.{symbol_of};
+ghost use Rattle.gta_syntax.specs.Refused.{IsRefused};
+ghost use Rattle.gta_syntax.specs.declared.fault.SpecFault.{SpecFault};
+ghost use Rattle.gta_syntax.specs.declared.fault.SpecFault.TheVariants.{Memory};
+ghost use Rattle.gta_syntax.specs.Refusals.{first_past, the_part, parts_from, read_tree, spec_of, Answers};
+
+use crate::fault::{LineFault, SpecFault};
+use crate::line_rules::part_at;
+use crate::parts::{Part, Spec};
+use crate::symbols::value_of;
+use gta_text::{INPUT_BOUND, Line, NUMBER_BOUND, Token, TokenKind, lines_of};
+use std::alloc::Global;
+
+/// A specification, and where the bytes after its line `rows` begin.
+#[derive(Debug, Drop)]
+pub struct Read {
+    pub spec: Spec,
+    pub rows_at: u32,
+}
+
+/// The specification that the bytes begin with, up to its line `rows`.
+pub fn read_spec(alloc: Global, bytes: &[u8]) -> Result<Read, SpecFault>
+    requires { length bytes.now ≤ INPUT_BOUND }
+    // What is read is the text's specification.
+    ensures found { IfOk result (λ read. SpecText bytes.now (spec_tree read.spec) read.rows_at) }
+    // A text that is a specification is read, unless memory runs out.
+    ensures only { (spec : SpecTree) (place : ℕ) → SpecText bytes.now spec place → Answers read_tree result (Ok (record { spec = spec; rows_at = place })) }
+
+    // Each refusal comes where it stands, and only there.
+    ensures refused { (fault : SpecFault) → IsErrOf result fault → fault ≢ Memory → IsRefused bytes.now fault }
+    ensures refuses { (fault : SpecFault) → IsRefused bytes.now fault → Answers read_tree result (Err fault) }
+
+    // The same by a function of the bytes.
+    ensures exact { Answers read_tree result (spec_of bytes.now) }
+{
+    answer_of(alloc, bytes)
+}
+
+#[tactic(auto, unfolding(crate::specs::Refusals::spec_of))]
+fn answer_of(alloc: Global, bytes: &[u8]) -> Result<Read, SpecFault>
+    requires { length bytes.now ≤ INPUT_BOUND }
+    ensures { Answers read_tree result (spec_of bytes.now) }
+{
+    let lines = lines_of(alloc, bytes)?;
+    let Some((first, others)) = lines.lines.split_first() else {
+        return Err(SpecFault::Version { line: 1 });
+    };
+    if !is_version(bytes, &first.tokens) {
+        return Err(SpecFault::Version { line: first.number });
+    }
+    let parts = parts_of(alloc, bytes, others)?;
+    if let Some(line) = first_past(bytes, others) {
+        return Err(SpecFault::Number { line });
+    }
+    let Some(rows_at) = lines.rows_at else {
+        return Err(SpecFault::NoRows);
+    };
+    let spec = Spec { version: 1, parts };
+    Ok(Read { spec, rows_at })
+}
+
+fn is_version(source: &[u8], tokens: &[Token]) -> bool
+    ensures { result ≡ is_version source.now tokens.now }
+{
+    match tokens {
+        [word, digits] => {
+            word.kind == TokenKind::Word
+                && word.text(source) == b"gta".as_slice()
+                && digits.kind == TokenKind::Digits
+                && digits.text(source) == b"1".as_slice()
+        }
+        _ => false,
+    }
+}
+
+/// The parts of the lines; `Grammar` names the first line that has none.
+fn parts_of(alloc: Global, source: &[u8], lines: &[Line]) -> Result<Vec<Part>, SpecFault>
+    ensures { Answers (λ parts. map part_tree parts.items) result (parts_from source.now (map line_view lines.now)) }
+{
+    let mut parts = Vec::new(alloc);
+    for line in lines {
+        let part = part_of(alloc, source, line)?;
+        parts.push(part)?;
+    }
+    Ok(parts)
+}
+
+fn part_of(alloc: Global, source: &[u8], line: &Line) -> Result<Part, SpecFault>
+    ensures { Answers part_tree result (the_part line.now.number (part_at (symbols source.now line.now.tokens.items))) }
+{
+    let number = line.number;
+    match part_at(alloc, source, &line.tokens) {
+        Ok(kind) => Ok(Part { line: number, kind }),
+        Err(LineFault::Grammar) => Err(SpecFault::Grammar { line: number }),
+        Err(LineFault::Memory) => Err(SpecFault::Memory),
+    }
+}
+
+/// The number of the first line that has a number past the bound.
+fn first_past(source: &[u8], lines: &[Line]) -> Option<u32>
+    ensures { result ≡ first_past source.now (map line_view lines.now) }
+{
+    for line in lines {
+        if has_past(source, &line.tokens) {
+            return Some(line.number);
+        }
+    }
+    None
+}
+
+fn has_past(source: &[u8], tokens: &[Token]) -> bool
+    ensures { result ≡ has_past source.now tokens.now }
+{
+    tokens.iter().any(|token| is_past(source, token))
+}
+
+fn is_past(source: &[u8], token: &Token) -> bool
+    ensures { result ≡ is_past (symbol_of source.now token.now) }
+{
+    match token.kind {
+        TokenKind::Digits => value_of(token.text(source)) > NUMBER_BOUND,
+        _ => false,
+    }
+}
