@@ -1,10 +1,10 @@
 -- From a row in which values were gathered to the map of its slots.
-use Rattle.std.proofs.Common.{◌≡◌, ℕ, zero, ◌+◌, ◌<◌, ◌≤◌, ◌≢◌, List, length, replicate, nat_eq, Option, None, refl, sym, ap, subst, ◌∙◌, arith}
+use Rattle.std.proofs.Common.{◌≡◌, ℕ, ◌+◌, ◌<◌, ◌≤◌, ◌≢◌, List, length, replicate, nat_eq, Option, None, sym, ap, subst, ◌∙◌, arith}
 use Rattle.std.proofs.lemmas.List.{length-replicate}
 use Rattle.std.specs.Prelude.{slice_index_or}
 use Rattle.monoid_kit.specs.Items.{IsIn, AllElements}
 use Rattle.semiring_kit.specs.Semiring.{SemiringOn, IsSemiring, IsGood, weight_bound}
-use Rattle.semiring_kit.specs.Total.{total, total_at_key, masked}
+use Rattle.semiring_kit.specs.Total.{total, total_at_key}
 use Rattle.semiring_kit.proofs.Sums.{total-is_sound, good_are_sound}
 use Rattle.monoid_kit.proofs.Keyed.{keyed-is_element}
 use Rattle.monoid_kit.proofs.Products.{only-is_element}
@@ -12,7 +12,7 @@ use Rattle.key_map.specs.declared.slot.Slot.{Slot}
 use Rattle.key_map.specs.Convolution.{convolution}
 use Rattle.key_map.specs.Slots.{key_of, elem_of, value_in, product_at, FitsSlots, KeysAscend}
 use Rattle.key_map.specs.SlotLaws.{value_in_is_good}
-use Rattle.key_map.specs.Rows.{value_of, value_in_row, IsGoodPlace, IsGoodRow, held, IsGathered, slots_from}
+use Rattle.key_map.specs.Rows.{value_of, IsGoodPlace, IsGoodRow, held, IsGathered, slots_from}
 use Rattle.key_map.proofs.Slots.{fits-keys, fits-good, fits-ascend, value_in-total, value_in-at_slot, value_in-absent, value_in-slots_from, fits-slots_from, length-slots_from}
 use Rattle.key_map.proofs.Rows.{held-replicate, get_or-replicate_none, gathered-same, gathered-then}
 use Rattle.key_map.proofs.Convolutions.{convolution-same, convolution_of_totals}

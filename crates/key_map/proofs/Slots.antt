@@ -11,7 +11,7 @@ use Rattle.semiring_kit.proofs.Sums.{good_are_sound}
 use Rattle.monoid_kit.proofs.Keyed.{keyed-is_element}
 use Rattle.key_map.specs.declared.slot.Slot.{Slot}
 use Rattle.key_map.specs.Slots.{key_of, elem_of, value_in, FitsSlots, KeysAscend}
-use Rattle.key_map.specs.Rows.{value_of, value_in_row, IsGoodPlace, IsGoodRow, held, slots_from}
+use Rattle.key_map.specs.Rows.{value_in_row, IsGoodRow, held, slots_from}
 
 module _ {E : Type 0} where
   pub slots_from-push : (low : ℕ) (row : List (Option E)) (place : Option E)

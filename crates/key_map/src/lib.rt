@@ -8,6 +8,8 @@ mod map_kit;
 mod row;
 mod slot;
 mod sparse_kit;
+#[cfg(test)]
+mod tests;
 
 pub use map_kit::MapKit;
 pub use slot::Slot;

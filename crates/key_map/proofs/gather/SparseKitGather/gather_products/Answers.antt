@@ -1,6 +1,5 @@
-use Rattle.std.proofs.Common.{◌≡◌, ◌+◌, ◌<◌, ◌≤◌, length, nat_eq, arith, ap, ◌∙◌}
+use Rattle.std.proofs.Common.{◌+◌, length, nat_eq, arith, ap, ◌∙◌}
 use Rattle.monoid_kit.proofs.Items.{IsIn-read}
-use Rattle.semiring_kit.specs.Semiring.{IsGood, weight_bound}
 use Rattle.semiring_kit.specs.Total.{masked}
 use Rattle.semiring_kit.proofs.Sums.{mul_is_good, masked_is_good}
 use Rattle.key_map.specs.Slots.{product_at}

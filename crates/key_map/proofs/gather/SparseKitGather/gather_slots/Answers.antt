@@ -1,6 +1,5 @@
 use Rattle.std.proofs.Common.{◌+◌, length, nat_eq, arith, ap}
 use Rattle.monoid_kit.proofs.Items.{IsIn-read}
-use Rattle.semiring_kit.specs.Semiring.{IsGood}
 use Rattle.semiring_kit.specs.Total.{masked}
 use Rattle.semiring_kit.proofs.Sums.{masked_is_good}
 use Rattle.key_map.proofs.Rows.{gathered-none, gathered-more, gathered-all}

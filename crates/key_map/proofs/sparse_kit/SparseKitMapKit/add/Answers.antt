@@ -1,8 +1,7 @@
 use Rattle.std.proofs.Common.{◌≡◌, ℕ, ◌+◌, ◌≤◌, length, arith, ap, subst, sym, ◌∙◌}
 use Rattle.std.proofs.lemmas.Result.{IfOk-weaker}
-use Rattle.semiring_kit.specs.Total.{total_at_key}
-use Rattle.key_map.specs.Slots.{key_of, elem_of, value_in, FitsSlots}
-use Rattle.key_map.specs.Rows.{IsGathered, slots_from}
+use Rattle.key_map.specs.Slots.{value_in, FitsSlots}
+use Rattle.key_map.specs.Rows.{slots_from}
 use Rattle.key_map.proofs.Maps.{empty-length, empty-IsGoodRow, keys-in_row, given-good, slots-fit, slots-value, slots-few, gathered-sums, sums-are_sound}
 use Rattle.key_map.proofs.sparse_kit.SparseKitMapKit.add.Goals as goal
 
