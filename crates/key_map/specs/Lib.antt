@@ -3,4 +3,5 @@ pub mod Convolution
 pub mod Slots
 pub mod SlotLaws
 pub mod Rows
+pub mod Merging
 pub mod ZeroBand

@@ -69,7 +69,8 @@ pub trait MapKit: Drop {
             let x = value_at self.now a.now in
             let y = value_at self.now b.now in
             IfOk result (λ map. SameValues (value_at self.now map) (sums ring x y)) }
-        ensures kept { IfOk result (λ map. kept self.now map ≤ kept self.now a.now + kept self.now b.now) };
+        ensures kept { let most = kept self.now a.now + kept self.now b.now in
+            IfOk result (λ map. kept self.now map ≤ most) };
 
     /// The convolution: at a key, the sum over all pairs of keys whose product is this key,
     /// of the products of their values, the factors in this order.
