@@ -1,10 +1,8 @@
 -- The convolution as two sums, and the convolution of sums by key: it is the sum over all pairs of items, by the product
 -- of their keys.
-use Rattle.std.proofs.Common.{◌≡◌, ℕ, ◌<◌, List, nat_eq, refl, sym, ap, ◌∙◌}
+use Rattle.std.proofs.Common.{◌≡◌, ℕ, ◌<◌, List, nat_eq, sym, ap, ◌∙◌}
 use Rattle.std.specs.List.{filter, range_with_len}
-use Rattle.monoid_kit.specs.Items.{IsIn, AllElements, pairs}
-use Rattle.monoid_kit.specs.Keyed.{IsAdditive}
-use Rattle.monoid_kit.proofs.Items.{AllElements-pairs}
+use Rattle.monoid_kit.specs.Items.{AllElements, pairs}
 use Rattle.monoid_kit.proofs.Products.{product_by-same, product_by-filter, product_by-pairs}
 use Rattle.monoid_kit.proofs.Keyed.{keyed-is_element, product_by-keyed, product_by-IsAdditive}
 use Rattle.semiring_kit.specs.Semiring.{SemiringOn, IsSemiring}

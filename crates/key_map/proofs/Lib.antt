@@ -3,3 +3,4 @@ mod Slots
 mod Rows
 mod Maps
 mod Searches
+mod Merges

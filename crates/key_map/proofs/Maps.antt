@@ -1,20 +1,18 @@
 -- From a row in which values were gathered to the map of its slots.
-use Rattle.std.proofs.Common.{◌≡◌, ℕ, zero, ◌+◌, ◌<◌, ◌≤◌, ◌≢◌, List, length, replicate, nat_eq, Option, None, refl, sym, ap, subst, ◌∙◌, arith}
+use Rattle.std.proofs.Common.{◌≡◌, ℕ, ◌+◌, ◌<◌, ◌≤◌, ◌≢◌, List, length, replicate, nat_eq, Option, None, sym, ap, subst, ◌∙◌, arith}
 use Rattle.std.proofs.lemmas.List.{length-replicate}
 use Rattle.std.specs.Prelude.{slice_index_or}
 use Rattle.monoid_kit.specs.Items.{IsIn, AllElements}
 use Rattle.semiring_kit.specs.Semiring.{SemiringOn, IsSemiring, IsGood, weight_bound}
-use Rattle.semiring_kit.specs.Total.{total, total_at_key, masked}
+use Rattle.semiring_kit.specs.Total.{total, total_at_key}
 use Rattle.semiring_kit.proofs.Sums.{total-is_sound, good_are_sound}
-use Rattle.monoid_kit.proofs.Keyed.{keyed-is_element}
 use Rattle.monoid_kit.proofs.Products.{only-is_element}
 use Rattle.key_map.specs.declared.slot.Slot.{Slot}
 use Rattle.key_map.specs.Convolution.{convolution}
-use Rattle.key_map.specs.Slots.{key_of, elem_of, value_in, product_at, FitsSlots, KeysAscend}
-use Rattle.key_map.specs.SlotLaws.{value_in_is_good}
-use Rattle.key_map.specs.Rows.{value_of, value_in_row, IsGoodPlace, IsGoodRow, held, IsGathered, slots_from}
-use Rattle.key_map.proofs.Slots.{fits-keys, fits-good, fits-ascend, value_in-total, value_in-at_slot, value_in-absent, value_in-slots_from, fits-slots_from, length-slots_from}
-use Rattle.key_map.proofs.Rows.{held-replicate, get_or-replicate_none, gathered-same, gathered-then}
+use Rattle.key_map.specs.Slots.{key_of, elem_of, value_in, product_at, products_at, FitsSlots, KeysAscend}
+use Rattle.key_map.specs.Rows.{value_of, IsGoodPlace, IsGoodRow, IsGathered, slots_from}
+use Rattle.key_map.proofs.Slots.{fits-keys, fits-good, fits-ascend, value_in-total, value_in-at_slot, value_in-absent, value_in-slots_from, fits-slots_from}
+use Rattle.key_map.proofs.Rows.{get_or-replicate_none, gathered-same}
 use Rattle.key_map.proofs.Convolutions.{convolution-same, convolution_of_totals}
 
 module _ {E : Type 0} (r : SemiringOn E) (size : ℕ) (row : List (Option E)) (empty : row ≡ replicate size None) where
@@ -26,8 +24,8 @@ module _ {E : Type 0} (r : SemiringOn E) (size : ℕ) (row : List (Option E)) (e
       subst (IsGoodPlace r) (sym (ap (λ places. slice_index_or places k None) empty ∙ get_or-replicate_none E size k))
       (let none : IsGoodPlace r None = tt in none)
 
-module _ {E : Type 0} {r : SemiringOn E} (laws : IsSemiring r) (size : ℕ) (row new : List (Option E)) (added : ℕ → E) (most : ℕ)
-    (empty : row ≡ replicate size None) (gathered : IsGathered r row new added most) where
+module _ {E : Type 0} {r : SemiringOn E} (laws : IsSemiring r) (size : ℕ) (row new : List (Option E)) (added : ℕ → E)
+    (empty : row ≡ replicate size None) (gathered : IsGathered r row new added) where
   new-length : length new ≡ size
   new-length = gathered.same_length ∙ empty-length r size row empty
 
@@ -44,19 +42,8 @@ module _ {E : Type 0} {r : SemiringOn E} (laws : IsSemiring r) (size : ℕ) (row
       (ap (λ places. slice_index_or places k None) empty ∙ get_or-replicate_none E size k)
       ∙ laws.addition.monoid.left_identity (added k) sound
 
-  pub slots-few : length (slots_from 0 new) ≤ most
-  slots-few =
-      let kept = length-slots_from 0 new in
-      let few = gathered.few in
-      let none : held row ≡ 0 = ap held empty ∙ held-replicate E size in
-      omega arith
-
--- what is asked of slots that are gathered in a row
+-- what is known of slots that a map keeps
 module _ {E : Type 0} (r : SemiringOn E) (size : ℕ) (kept given : List (Slot E)) (same : given ≡ kept) (fits : FitsSlots r 0 size kept) where
-  pub keys-in_row : (row : List (Option E)) → length row ≡ size → AllElements (λ key. key < length row) key_of given
-  keys-in_row row long slot slot_in =
-      let below = fits-keys r 0 size kept fits slot (subst (IsIn slot) same slot_in) in omega arith
-
   pub keys-below : AllElements (λ key. key < size) key_of given
   keys-below slot slot_in = fits-keys r 0 size kept fits slot (subst (IsIn slot) same slot_in)
 
@@ -84,33 +71,10 @@ module _ {E : Type 0} {r : SemiringOn E} (laws : IsSemiring r) (size : ℕ) (a b
   b_sound : AllElements r.is_sound elem_of b
   b_sound = good_are_sound laws elem_of b (fits-good r 0 size b b_fits)
 
-  -- the slots of two maps, gathered one after the other, are the sums key by key
-  pub gathered-sums : (row mid new : List (Option E)) → IsGoodRow r row
-      → IsGathered r row mid (total_at_key r key_of elem_of a) (length a)
-      → IsGathered r mid new (total_at_key r key_of elem_of b) (length b)
-      → IsGathered r row new (λ k. r.add (value_in r.zero a k) (value_in r.zero b k)) (length a + length b)
-  gathered-sums row mid new good first second =
-      gathered-same laws row new
-      (λ k. r.add (total_at_key r key_of elem_of a k) (total_at_key r key_of elem_of b k))
-      (λ k. r.add (value_in r.zero a k) (value_in r.zero b k))
-      (length a + length b) (length a + length b)
-      (λ k. ap (λ e. r.add e (total_at_key r key_of elem_of b k)) (sym (value_in-total laws 0 size a k a_fits))
-      ∙ ap (r.add (value_in r.zero a k)) (sym (value_in-total laws 0 size b k b_fits)))
-      (omega arith)
-      (gathered-then laws row mid new (total_at_key r key_of elem_of a) (total_at_key r key_of elem_of b) (length a) (length b) good
-      (λ k. keyed-is_element laws.addition key_of elem_of a k a_sound)
-      (λ k. keyed-is_element laws.addition key_of elem_of b k b_sound)
-      first second)
-
-  pub sums-are_sound : (k : ℕ) → r.is_sound (r.add (value_in r.zero a k) (value_in r.zero b k))
-  sums-are_sound k =
-      laws.addition.monoid.product_is_element (value_in r.zero a k) (value_in r.zero b k)
-      (value_in_is_good laws 0 size a k a_fits).sound (value_in_is_good laws 0 size b k b_fits).sound
-
   module _ (times : ℕ → ℕ → ℕ) where
     -- what the products of a left slot with the right slots add at a key
     pub products-are_sound : (left : Slot E) → IsIn left a → (k : ℕ)
-        → r.is_sound (total r (λ right. product_at r times left right k) b)
+        → r.is_sound (products_at r times left b k)
     products-are_sound left left_in k =
         total-is_sound laws (λ right. product_at r times left right k) b
         (λ right right_in. only-is_element laws.addition.monoid (nat_eq (times left.key right.key) k) (r.mul left.elem right.elem)
@@ -118,7 +82,7 @@ module _ {E : Type 0} {r : SemiringOn E} (laws : IsSemiring r) (size : ℕ) (a b
 
     -- over all left slots, it is the convolution
     products-convolution : (k : ℕ)
-        → total r (λ left. total r (λ right. product_at r times left right k) b) a
+        → total r (λ left. products_at r times left b k) a
         ≡ convolution r size times (value_in r.zero a) (value_in r.zero b) k
     products-convolution k =
         sym (convolution_of_totals laws size times key_of elem_of a key_of elem_of b k
@@ -127,19 +91,19 @@ module _ {E : Type 0} {r : SemiringOn E} (laws : IsSemiring r) (size : ℕ) (a b
         (total_at_key r key_of elem_of a) (value_in r.zero a) (total_at_key r key_of elem_of b) (value_in r.zero b) k
         (λ j. sym (value_in-total laws 0 size a j a_fits)) (λ j. sym (value_in-total laws 0 size b j b_fits))
 
-    pub gathered-convolution : (row new : List (Option E)) (most : ℕ)
-        → IsGathered r row new (λ k. total r (λ left. total r (λ right. product_at r times left right k) b) a) most
-        → IsGathered r row new (convolution r size times (value_in r.zero a) (value_in r.zero b)) most
-    gathered-convolution row new most gathered =
+    pub gathered-convolution : (row new : List (Option E))
+        → IsGathered r row new (λ k. total r (λ left. products_at r times left b k) a)
+        → IsGathered r row new (convolution r size times (value_in r.zero a) (value_in r.zero b))
+    gathered-convolution row new gathered =
         gathered-same laws row new
-        (λ k. total r (λ left. total r (λ right. product_at r times left right k) b) a)
-        (convolution r size times (value_in r.zero a) (value_in r.zero b)) most most
-        products-convolution (omega arith) gathered
+        (λ k. total r (λ left. products_at r times left b k) a)
+        (convolution r size times (value_in r.zero a) (value_in r.zero b))
+        products-convolution gathered
 
     pub convolution-is_sound : (k : ℕ) → r.is_sound (convolution r size times (value_in r.zero a) (value_in r.zero b) k)
     convolution-is_sound k =
         subst r.is_sound (products-convolution k)
-        (total-is_sound laws (λ left. total r (λ right. product_at r times left right k) b) a
+        (total-is_sound laws (λ left. products_at r times left b k) a
         (λ left left_in. products-are_sound left left_in k))
 
   -- reaches that add up at all keys do so at all slots

@@ -1,26 +1,15 @@
 -- Lemmas on rows in which values are gathered.
-use Rattle.std.proofs.Common.{◌≡◌, ℕ, zero, suc, ◌+◌, ◌<◌, ◌≤◌, ◌≢◌, Bool, true, false, List, [], ◌∷◌, ◌++◌, length, set, take, replicate, nat_eq, cond, Option, Some, None, inl, inr, refl, sym, ap, subst, ◌∙◌, arith, length-set, get_or-set_same, get_or-set_other}
+use Rattle.std.proofs.Common.{◌≡◌, ℕ, zero, suc, ◌+◌, ◌<◌, ◌≤◌, List, [], ◌∷◌, ◌++◌, length, set, take, replicate, nat_eq, Option, Some, None, inl, inr, refl, sym, ap, subst, ◌∙◌, length-set, get_or-set_same, get_or-set_other}
 use Rattle.std.specs.Prelude.{slice_index_or}
 use Rattle.std.proofs.lemmas.Bool.{cases_eq, eq-eqb, ne_eqb}
 use Rattle.std.proofs.lemmas.List.{take_more, take_all, get_or_read, set-set}
-use Rattle.monoid_kit.specs.Items.{IsIn, AllElements}
+use Rattle.monoid_kit.specs.Items.{IsIn}
 use Rattle.monoid_kit.proofs.Items.{IsIn-take, IsIn-read}
 use Rattle.monoid_kit.proofs.Products.{product_by-append}
 use Rattle.semiring_kit.specs.Semiring.{SemiringOn, IsSemiring, IsGood}
 use Rattle.semiring_kit.specs.Total.{total, masked}
 use Rattle.semiring_kit.proofs.Sums.{total-is_sound, zero_is_good, add_is_good}
-use Rattle.key_map.specs.Rows.{value_of, value_in_row, IsGoodPlace, IsGoodRow, held, IsGathered}
-
-held-set : {E : Type 0} (row : List (Option E)) (key : ℕ) (value : E) → held (set row key (Some value)) ≤ held row + 1
-held-set [] key value = omega arith
-held-set (None ∷ row) zero value = omega arith
-held-set (Some old ∷ row) zero value = omega arith
-held-set (None ∷ row) (suc key) value = held-set row key value
-held-set (Some old ∷ row) (suc key) value = let rest = held-set row key value in omega arith
-
-pub held-replicate : (E : Type 0) (size : ℕ) → held (replicate {A = Option E} size None) ≡ 0
-held-replicate E zero = refl
-held-replicate E (suc size) = held-replicate E size
+use Rattle.key_map.specs.Rows.{value_of, value_in_row, IsGoodPlace, IsGoodRow, IsGathered}
 
 pub get_or-replicate_none : (E : Type 0) (size k : ℕ) → slice_index_or (replicate {A = Option E} size None) k None ≡ None
 get_or-replicate_none E zero k = refl
@@ -38,7 +27,7 @@ module _ {E : Type 0} {r : SemiringOn E} (laws : IsSemiring r) where
   -- a value is set where the sum of what was there and the element belongs
   pub gathered-set : (row : List (Option E)) (key : ℕ) (value elem : E) → key < length row → IsGoodRow r row
       → IsGood r value → r.is_sound elem → value ≡ r.add (value_in_row r.zero row key) elem
-      → IsGathered r row (set row key (Some value)) (λ k. masked r (nat_eq key k) elem) 1
+      → IsGathered r row (set row key (Some value)) (λ k. masked r (nat_eq key k) elem)
   gathered-set row key value elem in_row good value_good elem_sound sum = record {
     same_length = length-set row key (Some value);
     values_are_good = λ k. elim (cases_eq k key) [
@@ -58,7 +47,6 @@ module _ {E : Type 0} {r : SemiringOn E} (laws : IsSemiring r) where
           ∙ sym (laws.addition.monoid.right_identity (value_in_row r.zero row k) (row_is_sound row k good))
           ∙ ap (λ t. r.add (value_in_row r.zero row k) (masked r t elem)) (sym (ne_eqb key k (λ same. other (sym same))))
     ];
-    few = held-set row key value;
   }
 
   place_is_good : (place : Option E) → IsGoodPlace r place → IsGood r (value_of r.zero place)
@@ -69,14 +57,14 @@ module _ {E : Type 0} {r : SemiringOn E} (laws : IsSemiring r) where
   pub gathered-take : (row : List (Option E)) (key : ℕ) (taken left : Option E) (value elem : E)
       → key < length row → IsGoodRow r row → IsGood r elem
       → taken ≡ slice_index_or row key taken → value ≡ r.add (value_of r.zero taken) elem
-      → IsGathered r row (set (set row key left) key (Some value)) (λ k. masked r (nat_eq key k) elem) 1
+      → IsGathered r row (set (set row key left) key (Some value)) (λ k. masked r (nat_eq key k) elem)
   gathered-take row key taken left value elem in_row good elem_good read sum =
       let place : taken ≡ slice_index_or row key None = get_or_read row key taken in_row read None in
       let held : value ≡ r.add (value_in_row r.zero row key) elem = sum ∙ ap (λ p. r.add (value_of r.zero p) elem) place in
       let value_good : IsGood r value =
       subst (IsGood r) (sym held)
       (add_is_good laws (value_in_row r.zero row key) elem (place_is_good (slice_index_or row key None) (good key)) elem_good) in
-      subst (λ new. IsGathered r row new (λ k. masked r (nat_eq key k) elem) 1) (sym (set-set row key left (Some value)))
+      subst (λ new. IsGathered r row new (λ k. masked r (nat_eq key k) elem)) (sym (set-set row key left (Some value)))
       (gathered-set row key value elem in_row good value_good elem_good.sound held)
 
   pub taken_none : (taken : Option E) (value elem : E) → IsGood r elem → taken ≡ None → value ≡ elem
@@ -90,60 +78,48 @@ module _ {E : Type 0} {r : SemiringOn E} (laws : IsSemiring r) where
       → value ≡ r.add (value_of r.zero taken) elem
   taken_some taken held value elem is same = same ∙ ap (λ p. r.add (value_of r.zero p) elem) (sym is)
 
-  pub held_is_good : (row : List (Option E)) (key : ℕ) (taken : Option E) (held : E) → key < length row → IsGoodRow r row
-      → taken ≡ slice_index_or row key taken → taken ≡ Some held → IsGood r held
-  held_is_good row key taken held in_row good read is =
-      subst (IsGoodPlace r) (sym (get_or_read row key taken in_row read None) ∙ is) (good key)
-
-  pub gathered-none : (row : List (Option E)) → IsGoodRow r row → IsGathered r row row (λ k. r.zero) 0
+  pub gathered-none : (row : List (Option E)) → IsGoodRow r row → IsGathered r row row (λ k. r.zero)
   gathered-none row good = record {
     same_length = refl;
     values_are_good = good;
     values = λ k. sym (laws.addition.monoid.right_identity (value_in_row r.zero row k) (row_is_sound row k good));
-    few = omega arith;
   }
 
-  pub gathered-same : (old new : List (Option E)) (f g : ℕ → E) (most more : ℕ) → ((k : ℕ) → f k ≡ g k) → most ≤ more
-      → IsGathered r old new f most → IsGathered r old new g more
-  gathered-same old new f g most more same above gathered = record {
+  pub gathered-same : (old new : List (Option E)) (f g : ℕ → E) → ((k : ℕ) → f k ≡ g k)
+      → IsGathered r old new f → IsGathered r old new g
+  gathered-same old new f g same gathered = record {
     same_length = gathered.same_length;
     values_are_good = gathered.values_are_good;
     values = λ k. gathered.values k ∙ ap (r.add (value_in_row r.zero old k)) (same k);
-    few = let few : held new ≤ held old + most = gathered.few in omega arith;
   }
 
   -- one after the other
-  pub gathered-then : (old mid new : List (Option E)) (f g : ℕ → E) (m n : ℕ) → IsGoodRow r old
+  gathered-then : (old mid new : List (Option E)) (f g : ℕ → E) → IsGoodRow r old
       → ((k : ℕ) → r.is_sound (f k)) → ((k : ℕ) → r.is_sound (g k))
-      → IsGathered r old mid f m → IsGathered r mid new g n
-      → IsGathered r old new (λ k. r.add (f k) (g k)) (m + n)
-  gathered-then old mid new f g m n good f_sound g_sound first second = record {
+      → IsGathered r old mid f → IsGathered r mid new g
+      → IsGathered r old new (λ k. r.add (f k) (g k))
+  gathered-then old mid new f g good f_sound g_sound first second = record {
     same_length = second.same_length ∙ first.same_length;
     values_are_good = second.values_are_good;
     values = λ k.
         second.values k
         ∙ ap (λ a. r.add a (g k)) (first.values k)
         ∙ laws.addition.monoid.associative (value_in_row r.zero old k) (f k) (g k) (row_is_sound old k good) (f_sound k) (g_sound k);
-    few =
-        let a : held mid ≤ held old + m = first.few in
-        let b : held new ≤ held mid + n = second.few in
-        omega arith;
   }
 
   -- a loop over a list: what the items so far add, and then the next item
-  pub gathered-more : {X : Type 0} (added : X → ℕ → E) (xs : List X) (i : ℕ) (x : X) (g : ℕ → E)
-      (old mid new : List (Option E)) (m n most : ℕ)
+  pub gathered-more : {X : Type 0} (added : X → ℕ → E) (xs : List X) (i : ℕ) (x : X) (g : ℕ → E) (old mid new : List (Option E))
       → IsGoodRow r old → ((y : X) → IsIn y xs → (k : ℕ) → r.is_sound (added y k))
-      → i < length xs → x ≡ slice_index_or xs i x → ((k : ℕ) → g k ≡ added x k) → m + n ≤ most
-      → IsGathered r old mid (λ k. total r (λ y. added y k) (take i xs)) m → IsGathered r mid new g n
-      → IsGathered r old new (λ k. total r (λ y. added y k) (take (i + 1) xs)) most
-  gathered-more added xs i x g old mid new m n most good sound in_xs is same below first second =
+      → i < length xs → x ≡ slice_index_or xs i x → ((k : ℕ) → g k ≡ added x k)
+      → IsGathered r old mid (λ k. total r (λ y. added y k) (take i xs)) → IsGathered r mid new g
+      → IsGathered r old new (λ k. total r (λ y. added y k) (take (i + 1) xs))
+  gathered-more added xs i x g old mid new good sound in_xs is same first second =
       gathered-same old new
       (λ k. r.add (total r (λ y. added y k) (take i xs)) (added x k))
       (λ k. total r (λ y. added y k) (take (i + 1) xs))
-      (m + n) most more below
-      (gathered-then old mid new (λ k. total r (λ y. added y k) (take i xs)) (added x) m n good so_far here first
-      (gathered-same mid new g (added x) n n same (omega arith) second))
+      more
+      (gathered-then old mid new (λ k. total r (λ y. added y k) (take i xs)) (added x) good so_far here first
+      (gathered-same mid new g (added x) same second))
     where
       here : (k : ℕ) → r.is_sound (added x k)
       here k = sound x (IsIn-read xs i x in_xs is) k
@@ -160,10 +136,9 @@ module _ {E : Type 0} {r : SemiringOn E} (laws : IsSemiring r) where
           ∙ ap (λ ys. total r (λ y. added y k) ys)
           (ap (λ y. take i xs ++ y ∷ []) is ∙ sym (take_more xs i x in_xs))
 
-  pub gathered-all : {X : Type 0} (added : X → ℕ → E) (xs : List X) (i : ℕ) (old new : List (Option E)) (m most : ℕ)
-      → length xs ≤ i → m ≤ most
-      → IsGathered r old new (λ k. total r (λ y. added y k) (take i xs)) m
-      → IsGathered r old new (λ k. total r (λ y. added y k) xs) most
-  gathered-all added xs i old new m most past below gathered =
-      gathered-same old new (λ k. total r (λ y. added y k) (take i xs)) (λ k. total r (λ y. added y k) xs) m most
-      (λ k. ap (λ ys. total r (λ y. added y k) ys) (take_all i xs past)) below gathered
+  pub gathered-all : {X : Type 0} (added : X → ℕ → E) (xs : List X) (i : ℕ) (old new : List (Option E)) → length xs ≤ i
+      → IsGathered r old new (λ k. total r (λ y. added y k) (take i xs))
+      → IsGathered r old new (λ k. total r (λ y. added y k) xs)
+  gathered-all added xs i old new past gathered =
+      gathered-same old new (λ k. total r (λ y. added y k) (take i xs)) (λ k. total r (λ y. added y k) xs)
+      (λ k. ap (λ ys. total r (λ y. added y k) ys) (take_all i xs past)) gathered

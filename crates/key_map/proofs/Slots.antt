@@ -11,7 +11,7 @@ use Rattle.semiring_kit.proofs.Sums.{good_are_sound}
 use Rattle.monoid_kit.proofs.Keyed.{keyed-is_element}
 use Rattle.key_map.specs.declared.slot.Slot.{Slot}
 use Rattle.key_map.specs.Slots.{key_of, elem_of, value_in, FitsSlots, KeysAscend}
-use Rattle.key_map.specs.Rows.{value_of, value_in_row, IsGoodPlace, IsGoodRow, held, slots_from}
+use Rattle.key_map.specs.Rows.{value_in_row, IsGoodRow, slots_from}
 
 module _ {E : Type 0} where
   pub slots_from-push : (low : ℕ) (row : List (Option E)) (place : Option E)
@@ -24,12 +24,6 @@ module _ {E : Type 0} where
       ap (λ slots. record { key = low; elem = value } ∷ slots)
       (slots_from-push (low + 1) row place
       ∙ ap (λ k. slots_from (low + 1) row ++ slots_from k (place ∷ [])) (omega arith))
-
-  pub length-slots_from : (low : ℕ) (row : List (Option E)) → length (slots_from low row) ≡ held row
-  length-slots_from low [] = refl
-  length-slots_from low (None ∷ row) = length-slots_from (low + 1) row
-  length-slots_from low (Some value ∷ row) =
-      let rest : length (slots_from (low + 1) row) ≡ held row = length-slots_from (low + 1) row in omega arith
 
   -- one more place, with a value or without
   pub slots_from-push_some : (row : List (Option E)) (place : Option E) (before after : List (Slot E)) (key : ℕ) (elem : E)
@@ -163,7 +157,7 @@ module _ {E : Type 0} {r : SemiringOn E} (laws : IsSemiring r) where
       ∙ ap (r.add r.zero) (total_at_key-below (slot.key + 1) high slots k fits.2.1 (omega arith))
       ∙ laws.addition.monoid.left_identity r.zero laws.addition.monoid.unit_is_element
 
-  value_in-cons : (test : Bool) (a b : E) → r.is_sound a → r.is_sound b → (test ≡ true → b ≡ r.zero)
+  pub value_in-cons : (test : Bool) (a b : E) → r.is_sound a → r.is_sound b → (test ≡ true → b ≡ r.zero)
       → cond test a b ≡ r.add (masked r test a) b
   value_in-cons true a b a_sound b_sound none =
       sym (laws.addition.monoid.right_identity a a_sound) ∙ ap (r.add a) (sym (none refl))

@@ -1,5 +1,5 @@
 -- Rows of places, one for each key, in which values are gathered before they are kept.
-use Rattle.std.specs.Prelude.{◌≡◌, ℕ, ◌+◌, ◌≤◌, List, [], ◌∷◌, length, slice_index_or, Option, Some, None}
+use Rattle.std.specs.Prelude.{◌≡◌, ℕ, ◌+◌, List, [], ◌∷◌, length, slice_index_or, Option, Some, None}
 use Rattle.semiring_kit.specs.Semiring.{SemiringOn, IsGood}
 use Rattle.key_map.specs.declared.slot.Slot.{Slot}
 
@@ -21,18 +21,11 @@ IsGoodPlace r (Some value) = IsGood r value
 abbrev pub IsGoodRow : {E : Type 0} → SemiringOn E → List (Option E) → Type 0
 IsGoodRow r row = (k : ℕ) → IsGoodPlace r (slice_index_or row k None)
 
--- how many places hold a value
-abbrev pub held : {E : Type 0} → List (Option E) → ℕ
-held [] = 0
-held (None ∷ row) = held row
-held (Some value ∷ row) = held row + 1
-
--- the new row holds at each key the sum of the old value and what is added there; at most so many places more are taken
-pub record IsGathered {E : Type 0} (r : SemiringOn E) (old new : List (Option E)) (added : ℕ → E) (most : ℕ) : Type 0 where
+-- the new row holds at each key the sum of the old value and what is added there
+pub record IsGathered {E : Type 0} (r : SemiringOn E) (old new : List (Option E)) (added : ℕ → E) : Type 0 where
   pub same_length : length new ≡ length old
   pub values_are_good : IsGoodRow r new
   pub values : (k : ℕ) → value_in_row r.zero new k ≡ r.add (value_in_row r.zero old k) (added k)
-  pub few : held new ≤ held old + most
 
 -- the values of a row, each with its place as its key, the first place being low
 abbrev pub slots_from : {E : Type 0} → ℕ → List (Option E) → List (Slot E)

@@ -1,5 +1,5 @@
 -- What holds of each list of slots that fits.
-use Rattle.std.specs.Prelude.{◌≡◌, ℕ, ◌+◌, ◌-◌, ◌<◌, ◌≤◌, Bool, true, false, List, [], ◌∷◌, length, nat_eq, if◌then◌else◌}
+use Rattle.std.specs.Prelude.{ℕ, ◌+◌, ◌-◌, ◌<◌, ◌≤◌, Bool, true, false, List, [], ◌∷◌, length, nat_eq, if◌then◌else◌}
 use Rattle.std.proofs.Common.{arith}
 use Rattle.semiring_kit.specs.Semiring.{SemiringOn, IsSemiring, IsGood}
 use Rattle.semiring_kit.proofs.Sums.{zero_is_good}

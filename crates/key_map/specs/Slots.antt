@@ -1,7 +1,7 @@
 -- Slots, each a key with its value, and what a list of them stands for.
 use Rattle.std.specs.Prelude.{ℕ, ◌+◌, ◌<◌, ◌≤◌, List, [], ◌∷◌, length, slice_index_or, nat_eq, if◌then◌else◌}
 use Rattle.semiring_kit.specs.Semiring.{SemiringOn, IsGood}
-use Rattle.semiring_kit.specs.Total.{masked}
+use Rattle.semiring_kit.specs.Total.{masked, total}
 use Rattle.key_map.specs.declared.slot.Slot.{Slot}
 
 -- the parts of a slot
@@ -14,6 +14,10 @@ elem_of slot = slot.elem
 -- what the product of two slots, in this order, has at key k
 abbrev pub product_at : {E : Type 0} → SemiringOn E → (ℕ → ℕ → ℕ) → Slot E → Slot E → ℕ → E
 product_at r times left right k = masked r (nat_eq (times left.key right.key) k) (r.mul left.elem right.elem)
+
+-- what the products of a slot with each of the right slots have at key k together
+abbrev pub products_at : {E : Type 0} → SemiringOn E → (ℕ → ℕ → ℕ) → Slot E → List (Slot E) → ℕ → E
+products_at r times left right k = total r (λ slot. product_at r times left slot k) right
 
 -- the value at key k: that of the slot with this key, and zero where there is none
 abbrev pub value_in : {E : Type 0} → E → List (Slot E) → ℕ → E

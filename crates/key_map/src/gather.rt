@@ -1,11 +1,12 @@
-//! The steps of sums and of convolutions: values are added up in a row with a place for each key.
-//! They are methods of a trait, since a method of an impl can't call a function whose bound has a type that is `Send`.
+//! The steps of convolutions: products are added up in a row with a place for each key.
+//! They are methods of a trait, since a method of an impl can't call a function
+//! whose bound has an associated type that is `Send`.
 
-ghost use Rattle.std.specs.Prelude.{◌≡◌, ℕ, ◌+◌, ◌<◌, ◌≤◌, length, nat_eq, OnOk};
+ghost use Rattle.std.specs.Prelude.{◌≡◌, ℕ, ◌+◌, ◌<◌, ◌≤◌, length, OnOk};
 ghost use Rattle.monoid_kit.specs.Items.{AllElements};
 ghost use Rattle.semiring_kit.specs.Semiring.{SemiringOn, IsGood, weight_bound};
-ghost use Rattle.semiring_kit.specs.Total.{total, masked, total_at_key};
-ghost use Rattle.key_map.specs.Slots.{key_of, elem_of, product_at};
+ghost use Rattle.key_map.specs.Maps.{alone};
+ghost use Rattle.key_map.specs.Slots.{key_of, elem_of, products_at};
 ghost use Rattle.key_map.specs.Rows.{IsGoodRow, IsGathered};
 
 use crate::slot::Slot;
@@ -36,23 +37,11 @@ pub(crate) trait Gather: Drop {
         requires key_is_in_row { key < length row.old.items }
         requires row_is_good { IsGoodRow (ring self.now) row.old.items }
         requires elem_is_good { IsGood (ring self.now) elem }
-        ensures { OnOk result (IsGathered (ring self.now) row.old.items row.new.items
-            (λ k. masked (ring self.now) (nat_eq key k) elem) 1) };
+        ensures { OnOk result
+            (IsGathered (ring self.now) row.old.items row.new.items (alone (ring self.now) key elem)) };
 
-    // Adds the values of the slots.
-    fn gather_slots(
-        &self,
-        alloc: Global,
-        row: &mut Vec<Option<Self::Item>>,
-        slots: &[Slot<Self::Item>],
-    ) -> Result<(), AllocError>
-        requires keys_are_in_row { AllElements (λ key. key < length row.old.items) key_of slots.now }
-        requires row_is_good { IsGoodRow (ring self.now) row.old.items }
-        requires slots_are_good { AllElements (IsGood (ring self.now)) elem_of slots.now }
-        ensures { OnOk result (IsGathered (ring self.now) row.old.items row.new.items
-            (λ k. total_at_key (ring self.now) key_of elem_of slots.now k) (length slots.now)) };
-
-    // Adds the products of the left slot with each of the right slots, in this order. Each is one step.
+    // Adds the products of the left slot with each of the right slots, in this order.
+    // Each is one step.
     fn gather_products<L: Ledger>(
         &self,
         alloc: Global,
@@ -67,14 +56,10 @@ pub(crate) trait Gather: Drop {
         requires right_are_elements { AllElements (λ key. key < size self.now) key_of right.now }
         requires left_is_good { IsGood (ring self.now) left.now.elem }
         requires right_are_good { AllElements (IsGood (ring self.now)) elem_of right.now }
-        requires reaches_add_up { AllElements
-            (λ elem. (ring self.now).reach left.now.elem + (ring self.now).reach elem ≤ weight_bound)
-            elem_of right.now }
-        ensures gathered { OnOk result (IsGathered (ring self.now) row.old.items row.new.items
-            (λ k. total (ring self.now)
-            (λ slot. product_at (ring self.now) (times self.now) left.now slot k)
-            right.now)
-            (length right.now)) }
+        requires reaches_add_up { let reach = (ring self.now).reach in
+            AllElements (λ elem. reach left.now.elem + reach elem ≤ weight_bound) elem_of right.now }
+        ensures gathered { let added = products_at (ring self.now) (times self.now) left.now right.now in
+            OnOk result (IsGathered (ring self.now) row.old.items row.new.items added) }
         ensures cost { steps.new ≤ steps.old + length right.now };
 }
 
@@ -100,19 +85,6 @@ impl<S: Semiring, M: Monoid> Gather for SparseKit<S, M> {
             Some(held) => self.kit.add(alloc, &held, &elem)?,
         };
         row[place] = Some(sum);
-        Ok(())
-    }
-
-    fn gather_slots(
-        &self,
-        alloc: Global,
-        row: &mut Vec<Option<S::Elem>>,
-        slots: &[Slot<S::Elem>],
-    ) -> Result<(), AllocError> {
-        for slot in slots {
-            let elem = self.kit.copy(alloc, &slot.elem)?;
-            self.gather(alloc, row, slot.key, elem)?;
-        }
         Ok(())
     }
 

@@ -1,8 +1,9 @@
-//! Maps from keys to values, whatever their form. The convolution is in specs/Convolution.antt.
+//! Maps from keys to values, whatever their form. What they stand for is in specs/Maps.antt,
+//! and the convolution in specs/Convolution.antt.
 
-ghost use Rattle.std.specs.Prelude.{◌≡◌, ℕ, ◌+◌, ◌*◌, ◌<◌, ◌≤◌, nat_eq, IfOk};
-ghost use Rattle.semiring_kit.specs.Semiring.{IsGood, weight_bound};
-ghost use Rattle.semiring_kit.specs.Total.{masked};
+ghost use Rattle.std.specs.Prelude.{◌≡◌, ℕ, ◌+◌, ◌*◌, ◌<◌, ◌≤◌, IfOk};
+ghost use Rattle.semiring_kit.specs.Semiring.{IsGood};
+ghost use Rattle.key_map.specs.Maps.{nothing, alone, sums, SameValues, ReachesAddUp};
 ghost use Rattle.key_map.specs.Convolution.{convolution};
 
 use monoid_kit::Monoid;
@@ -41,8 +42,8 @@ pub trait MapKit: Drop {
     /// The map that keeps no key.
     fn none(&self, alloc: Global) -> Result<Self::Map, AllocError>
         ensures fits { IfOk result (fits self.now) }
-        ensures value { IfOk result (λ map. (k : ℕ)
-            → value_at self.now map k ≡ (Self.Kit.ring (kit self.now)).zero) }
+        ensures value { let ring = Self.Kit.ring (kit self.now) in
+            IfOk result (λ map. SameValues (value_at self.now map) (nothing ring)) }
         ensures kept { IfOk result (λ map. kept self.now map ≡ 0) };
 
     /// The map that has this value at this key, and zero elsewhere.
@@ -55,8 +56,8 @@ pub trait MapKit: Drop {
         requires key_is_element { key < Self.Keys.size (keys self.now) }
         requires elem_is_good { IsGood (Self.Kit.ring (kit self.now)) elem }
         ensures fits { IfOk result (fits self.now) }
-        ensures value { IfOk result (λ map. (k : ℕ)
-            → value_at self.now map k ≡ masked (Self.Kit.ring (kit self.now)) (nat_eq key k) elem) }
+        ensures value { let ring = Self.Kit.ring (kit self.now) in
+            IfOk result (λ map. SameValues (value_at self.now map) (alone ring key elem)) }
         ensures kept { IfOk result (λ map. kept self.now map ≤ 1) };
 
     /// The map of the sums, key by key.
@@ -64,13 +65,16 @@ pub trait MapKit: Drop {
         requires left_fits { fits self.now a.now }
         requires right_fits { fits self.now b.now }
         ensures fits { IfOk result (fits self.now) }
-        ensures value { IfOk result (λ map. (k : ℕ)
-            → value_at self.now map k
-            ≡ (Self.Kit.ring (kit self.now)).add (value_at self.now a.now k) (value_at self.now b.now k)) }
-        ensures kept { IfOk result (λ map. kept self.now map ≤ kept self.now a.now + kept self.now b.now) };
+        ensures value { let ring = Self.Kit.ring (kit self.now) in
+            let x = value_at self.now a.now in
+            let y = value_at self.now b.now in
+            IfOk result (λ map. SameValues (value_at self.now map) (sums ring x y)) }
+        ensures kept { let most = kept self.now a.now + kept self.now b.now in
+            IfOk result (λ map. kept self.now map ≤ most) };
 
-    /// The convolution: at a key, the sum over all pairs of keys whose product it is, of the products of their
-    /// values, the factors in this order. It takes one step at most for each pair of kept keys.
+    /// The convolution: at a key, the sum over all pairs of keys whose product is this key,
+    /// of the products of their values, the factors in this order.
+    /// It takes at most a step for each pair of kept keys, also where memory is refused.
     fn convolve<L: Ledger>(
         &self,
         alloc: Global,
@@ -80,20 +84,16 @@ pub trait MapKit: Drop {
     ) -> Result<Self::Map, AllocError>
         requires left_fits { fits self.now a.now }
         requires right_fits { fits self.now b.now }
-        requires reaches_add_up { (j k : ℕ)
-            → (Self.Kit.ring (kit self.now)).reach (value_at self.now a.now j)
-            + (Self.Kit.ring (kit self.now)).reach (value_at self.now b.now k)
-            ≤ weight_bound }
+        requires reaches_add_up { let ring = Self.Kit.ring (kit self.now) in
+            ReachesAddUp ring (value_at self.now a.now) (value_at self.now b.now) }
         ensures fits { IfOk result (fits self.now) }
-        ensures value { IfOk result (λ map. (k : ℕ)
-            → value_at self.now map k
-            ≡ convolution
-            (Self.Kit.ring (kit self.now))
-            (Self.Keys.size (keys self.now))
-            (Self.Keys.mul (keys self.now))
-            (value_at self.now a.now)
-            (value_at self.now b.now)
-            k) }
+        ensures value { let ring = Self.Kit.ring (kit self.now) in
+            let size = Self.Keys.size (keys self.now) in
+            let times = Self.Keys.mul (keys self.now) in
+            let x = value_at self.now a.now in
+            let y = value_at self.now b.now in
+            IfOk result (λ map.
+            SameValues (value_at self.now map) (convolution ring size times x y)) }
         ensures cost { steps.new ≤ steps.old + kept self.now a.now * kept self.now b.now };
 
     /// The value at a key.
@@ -108,8 +108,10 @@ pub trait MapKit: Drop {
         ensures { IfOk result (λ elem. elem ≡ value_at self.now map.now key) };
 
     ghost value_is_good: { (s : Self) (map : Self.Map) (k : ℕ)
-        → fits s map → IsGood (Self.Kit.ring (kit s)) (value_at s map k) };
+        → fits s map
+        → IsGood (Self.Kit.ring (kit s)) (value_at s map k) };
 
     ghost few_kept: { (s : Self) (map : Self.Map)
-        → fits s map → kept s map ≤ Self.Keys.size (keys s) };
+        → fits s map
+        → kept s map ≤ Self.Keys.size (keys s) };
 }

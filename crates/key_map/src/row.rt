@@ -1,4 +1,5 @@
-//! Rows with a place for each key, in which values are gathered. What a row holds is in specs/Rows.antt.
+//! Rows with a place for each key, in which values are gathered.
+//! What a row holds is in specs/Rows.antt.
 
 ghost use Rattle.std.specs.Prelude.{◌≡◌, ◌<◌, ◌^◌, length, replicate, IfOk};
 ghost use Rattle.key_map.specs.Rows.{slots_from};

@@ -1,9 +1,11 @@
-//! Maps that keep a vector of slots, their keys strictly ascending. What they stand for is in specs/Slots.antt.
+//! Maps that keep a vector of slots, their keys strictly ascending.
+//! What they stand for is in specs/Slots.antt.
 
 ghost use Rattle.std.specs.Prelude.{length};
 
 use crate::gather::Gather;
 use crate::map_kit::MapKit;
+use crate::merge::{Merge, after_key};
 use crate::row::{empty_row, slots_of};
 use crate::slot::{Slot, find_slot};
 use monoid_kit::Monoid;
@@ -12,9 +14,10 @@ use std::alloc::{AllocError, Global};
 use std::sync::ledger::Ledger;
 use step_count::Steps;
 
-/// Maps that keep a slot for each key that has been given a value, by ascending key.
-/// Sums and convolutions are gathered in a row with a place for each key, so that each takes time and memory
-/// in proportion to the number of keys, besides its sums and products.
+/// Maps that keep a slot for each key that was given a value, by ascending key.
+/// A sum takes time in proportion to the kept keys of both maps, and `get` looks by halves.
+/// A convolution looks at each pair of kept keys once. It adds up the products in a row with a place
+/// for each key, so that it also takes time and memory in proportion to the number of keys.
 #[derive(Drop)]
 pub struct SparseKit<S: Semiring, M: Monoid> {
     pub kit: S,
@@ -55,40 +58,34 @@ impl<S: Semiring, M: Monoid> MapKit for SparseKit<S, M> {
         &self.keys
     }
 
-    fn none(&self, alloc: Global) -> Result<Vec<Slot<S::Elem>>, AllocError> {
+    fn none(&self, alloc: Global) -> Result<Self::Map, AllocError> {
         Ok(Vec::new(alloc))
     }
 
-    fn single(
-        &self,
-        alloc: Global,
-        key: u32,
-        elem: S::Elem,
-    ) -> Result<Vec<Slot<S::Elem>>, AllocError> {
+    fn single(&self, alloc: Global, key: u32, elem: S::Elem) -> Result<Self::Map, AllocError> {
         let mut slots = Vec::with_capacity(alloc, 1)?;
         slots.push(Slot { key, elem })?;
         Ok(slots)
     }
 
-    fn add(
-        &self,
-        alloc: Global,
-        a: &Vec<Slot<S::Elem>>,
-        b: &Vec<Slot<S::Elem>>,
-    ) -> Result<Vec<Slot<S::Elem>>, AllocError> {
-        let mut row = empty_row(alloc, self.keys.size())?;
-        self.gather_slots(alloc, &mut row, a)?;
-        self.gather_slots(alloc, &mut row, b)?;
-        slots_of(alloc, row)
+    fn add(&self, alloc: Global, a: &Self::Map, b: &Self::Map) -> Result<Self::Map, AllocError> {
+        let mut sums = Vec::with_capacity(alloc, a.len().max(b.len()))?;
+        let (mut left, mut right) = (a.as_slice(), b.as_slice());
+        while let Some(slot) = self.least_slot(alloc, left, right)? {
+            left = after_key(left, slot.key);
+            right = after_key(right, slot.key);
+            sums.push(slot)?;
+        }
+        Ok(sums)
     }
 
     fn convolve<L: Ledger>(
         &self,
         alloc: Global,
-        a: &Vec<Slot<S::Elem>>,
-        b: &Vec<Slot<S::Elem>>,
+        a: &Self::Map,
+        b: &Self::Map,
         steps: &mut Steps<L>,
-    ) -> Result<Vec<Slot<S::Elem>>, AllocError> {
+    ) -> Result<Self::Map, AllocError> {
         let mut row = empty_row(alloc, self.keys.size())?;
         for left in a {
             self.gather_products(alloc, &mut row, left, b, steps)?;
@@ -96,12 +93,7 @@ impl<S: Semiring, M: Monoid> MapKit for SparseKit<S, M> {
         slots_of(alloc, row)
     }
 
-    fn get(
-        &self,
-        alloc: Global,
-        map: &Vec<Slot<S::Elem>>,
-        key: u32,
-    ) -> Result<S::Elem, AllocError> {
+    fn get(&self, alloc: Global, map: &Self::Map, key: u32) -> Result<S::Elem, AllocError> {
         match find_slot(map, key) {
             Some(slot) => self.kit.copy(alloc, &slot.elem),
             None => self.kit.zero(alloc),

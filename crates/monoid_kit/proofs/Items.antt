@@ -63,24 +63,27 @@ module _ {X : Type 0} where
   pub IsIn-place : (xs : List X) (x default : X) → IsIn x xs → (i : ℕ) × (i < length xs) × (get_or xs i default ≡ x)
   IsIn-place [] x default x_in = absurd x_in
   IsIn-place (y ∷ xs) x default x_in = elim x_in [
-      inl same ↦ (0, omega arith, sym same)
+    | inl same ↦ (0, omega arith, sym same)
     | inr later ↦
         let there = IsIn-place xs x default later in
         let below : there.0 < length xs = there.1 in
-        (suc there.0, omega arith, there.2) ]
+        (suc there.0, omega arith, there.2)
+  ]
 
   pub IsIn-take : (n : ℕ) (xs : List X) (x : X) → IsIn x (take n xs) → IsIn x xs
   IsIn-take zero xs x x_in = absurd x_in
   IsIn-take (suc n) [] x x_in = absurd x_in
   IsIn-take (suc n) (y ∷ xs) x x_in = elim x_in [
-      inl same ↦ inl same
-    | inr later ↦ inr (IsIn-take n xs x later) ]
+    | inl same ↦ inl same
+    | inr later ↦ inr (IsIn-take n xs x later)
+  ]
 
   pub IsIn-append_left : (xs ys : List X) (x : X) → IsIn x xs → IsIn x (xs ++ ys)
   IsIn-append_left [] ys x x_in = absurd x_in
   IsIn-append_left (y ∷ xs) ys x x_in = elim x_in [
-      inl same ↦ inl same
-    | inr later ↦ inr (IsIn-append_left xs ys x later) ]
+    | inl same ↦ inl same
+    | inr later ↦ inr (IsIn-append_left xs ys x later)
+  ]
 
   pub IsIn-append_right : (xs ys : List X) (x : X) → IsIn x ys → IsIn x (xs ++ ys)
   IsIn-append_right [] ys x x_in = x_in

@@ -30,10 +30,10 @@ module _ {E : Type 0} {is_element : E → Type 0} {unit : E} {mul : E → E → 
     keeps_unit = product_by-unit abelian.monoid (λ x. g x unit) xs (λ x x_in. (additive x x_in).keeps_unit);
     keeps_products = λ a b a_in b_in.
         product_by-same unit mul (λ x. g x (mul a b)) (λ x. mul (g x a) (g x b)) xs
-            (λ x x_in. (additive x x_in).keeps_products a b a_in b_in)
+        (λ x x_in. (additive x x_in).keeps_products a b a_in b_in)
         ∙ product_by-mul abelian (λ x. g x a) (λ x. g x b) xs
-            (λ x x_in. (additive x x_in).keeps_elements a a_in)
-            (λ x x_in. (additive x x_in).keeps_elements b b_in)
+        (λ x x_in. (additive x x_in).keeps_elements a a_in)
+        (λ x x_in. (additive x x_in).keeps_elements b b_in);
   }
 
 module _ {E : Type 0} {is_element : E → Type 0} {unit : E} {mul : E → E → E} (abelian : IsCommutativeMonoidOn is_element unit mul)

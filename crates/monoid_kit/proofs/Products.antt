@@ -67,10 +67,10 @@ module _ {E : Type 0} {is_element : E → Type 0} {unit : E} {mul : E → E → 
       → product_by unit mul f (pairs xs ys) ≡ product_by unit mul (λ x. product_by unit mul (λ y. f (x, y)) ys) xs
   product_by-pairs {X = X} f xs ys elements =
       product_by-flat_map f (λ x. map (λ y. (x, y)) ys) xs
-          (λ x x_in. AllElements-map is_element f (λ y. (x, y)) ys (elements x x_in))
+      (λ x x_in. AllElements-map is_element f (λ y. (x, y)) ys (elements x x_in))
       ∙ product_by-same unit mul (λ x. product_by unit mul f (map (λ y. (x, y)) ys))
-          (λ x. product_by unit mul (λ y. f (x, y)) ys) xs
-          (λ x x_in. product_by-map unit mul f (λ y. (x, y)) ys)
+      (λ x. product_by unit mul (λ y. f (x, y)) ys) xs
+      (λ x x_in. product_by-map unit mul f (λ y. (x, y)) ys)
 
   pub only-is_element : (test : Bool) (a : E) → is_element a → is_element (only unit test a)
   only-is_element true a element = element

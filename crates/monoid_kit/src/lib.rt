@@ -1,5 +1,5 @@
-//! Finite monoids, in which tests are computed. The trait is in monoid.rt, and its laws in specs/Monoid.antt;
-//! sums that stop one past a bound are in capped_sum.rt.
+//! Finite monoids, in which tests are computed. The trait is in monoid.rt, and its laws in
+//! specs/Monoid.antt; sums that stop one past a bound are in capped_sum.rt.
 #![tactic(auto)]
 
 mod capped_sum;

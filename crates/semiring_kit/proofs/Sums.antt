@@ -79,8 +79,8 @@ module _ {E : Type 0} {r : SemiringOn E} (laws : IsSemiring r) where
         keeps_products = λ a c a_sound c_sound.
             ap (masked r test) (laws.distributes_right a c b a_sound c_sound b_sound)
             ∙ mask.keeps_products (r.mul a b) (r.mul c b)
-                (laws.multiplication.product_is_element a b a_sound b_sound)
-                (laws.multiplication.product_is_element c b c_sound b_sound)
+            (laws.multiplication.product_is_element a b a_sound b_sound)
+            (laws.multiplication.product_is_element c b c_sound b_sound);
       }
 
   -- good elements

@@ -1,4 +1,5 @@
-//! Semirings over values that may take memory. The operations and their laws are in specs/Semiring.antt.
+//! Semirings over values that may take memory.
+//! The operations and their laws are in specs/Semiring.antt.
 
 ghost use Rattle.std.specs.Prelude.{◌≡◌, ℕ, ℤ, ◌+◌, ◌≤◌, IfOk, unsigned_abs};
 ghost use Rattle.semiring_kit.specs.Semiring.{SemiringOn, IsSemiring, IsGood, weight_bound};
@@ -52,7 +53,8 @@ pub trait Semiring: Drop {
     ) -> Result<Self::Elem, AllocError>
         requires left_is_good { IsGood (ring self.now) a.now }
         requires right_is_good { IsGood (ring self.now) b.now }
-        requires reaches_add_up { (ring self.now).reach a.now + (ring self.now).reach b.now ≤ weight_bound }
+        requires reaches_add_up { let reach = (ring self.now).reach in
+            reach a.now + reach b.now ≤ weight_bound }
         ensures value { IfOk result (λ elem. elem ≡ (ring self.now).mul a.now b.now) }
         ensures one_step { steps.new ≡ steps.old + 1 };
 

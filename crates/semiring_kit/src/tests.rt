@@ -32,7 +32,8 @@ fn combined<S: Semiring, L: Ledger>(
 ) -> Result<(S::Elem, S::Elem, S::Elem), AllocError>
     requires left_is_good { IsGood (S.ring kit.now) left.now }
     requires right_is_good { IsGood (S.ring kit.now) right.now }
-    requires reaches_add_up { (S.ring kit.now).reach left.now + (S.ring kit.now).reach right.now ≤ weight_bound }
+    requires reaches_add_up { let reach = (S.ring kit.now).reach in
+        reach left.now + reach right.now ≤ weight_bound }
     requires same_name { blank.name ≡ L.name }
     requires same_parts { blank.parts ≡ L.parts }
     requires some_part { 0 < blank.parts }

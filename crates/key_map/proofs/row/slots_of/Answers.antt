@@ -1,4 +1,4 @@
-use Rattle.std.proofs.Common.{arith, sym, ap, ◌∙◌}
+use Rattle.std.proofs.Common.{arith, ap, ◌∙◌}
 use Rattle.std.proofs.lemmas.List.{length_push}
 use Rattle.key_map.proofs.Slots.{slots_from-push_some, slots_from-push_none}
 use Rattle.key_map.proofs.row.slots_of.Goals as goal

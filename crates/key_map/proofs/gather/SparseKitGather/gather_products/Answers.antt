@@ -1,6 +1,5 @@
-use Rattle.std.proofs.Common.{◌≡◌, ◌+◌, ◌<◌, ◌≤◌, length, nat_eq, arith, ap, ◌∙◌}
+use Rattle.std.proofs.Common.{nat_eq, arith, ap, ◌∙◌}
 use Rattle.monoid_kit.proofs.Items.{IsIn-read}
-use Rattle.semiring_kit.specs.Semiring.{IsGood, weight_bound}
 use Rattle.semiring_kit.specs.Total.{masked}
 use Rattle.semiring_kit.proofs.Sums.{mul_is_good, masked_is_good}
 use Rattle.key_map.specs.Slots.{product_at}
@@ -63,7 +62,6 @@ loop-slot-preserved g c =
       gathered = gathered-more laws (λ slot k. product_at ring times left slot k) c.args.right.now c.loop-slot.slot-index slot
           (λ k. masked ring (nat_eq c.mul-key.result k) c.in_ok-elem.elem)
           c.args.row.now.items c.loop-slot.row.items c.gather.new.row.items
-          c.loop-slot.slot-index 1 (c.loop-slot.slot-index + 1)
           c.requires.row_is_good
           (λ other other_in k. (masked_is_good laws (nat_eq (times left.key other.key) k) (ring.mul left.elem other.elem)
           (mul_is_good laws left.elem other.elem c.requires.left_is_good
@@ -71,7 +69,6 @@ loop-slot-preserved g c =
           c.loop-slot-test.true c.slot-item.is
           (λ k. ap (λ key. masked ring (nat_eq key k) c.in_ok-elem.elem) c.mul-key.ensures
           ∙ ap (masked ring (nat_eq (times left.key slot.key) k)) c.in_ok-elem.ensures.value)
-          (omega arith)
           c.loop-slot.invariant.gathered c.in_ok-gather.ensures;
       cost =
           let step = c.in_ok-elem.ensures.one_step in
@@ -87,7 +84,7 @@ returns g c =
       gathered = gathered-all (g.met.S.Semiring.laws c.args.self.now.kit)
           (λ slot k. product_at ring times c.args.left.now slot k)
           c.args.right.now c.loop-slot.slot-index c.args.row.now.items c.loop-slot.row.items
-          c.loop-slot.slot-index (length c.args.right.now) c.loop-slot-test.false c.loop-slot.auto.slot-index-end
+          c.loop-slot-test.false
           c.loop-slot.invariant.gathered;
       cost =
           let before = c.loop-slot.invariant.cost in

@@ -1,6 +1,5 @@
 use Rattle.std.proofs.Common.{◌+◌, ◌≤◌, take}
-use Rattle.semiring_kit.specs.Total.{total}
-use Rattle.key_map.specs.Slots.{product_at}
+use Rattle.key_map.specs.Slots.{products_at}
 use Rattle.key_map.specs.Rows.{IsGathered}
 use Rattle.key_map.proofs.gather.SparseKitGather.gather_products.Given as goal
 
@@ -10,6 +9,6 @@ invariant-loop-slot g l =
     let times = g.M.Monoid.mul l.self.keys in
     record {
       gathered : IsGathered ring l.initial.row.items l.row.items
-          (λ k. total ring (λ slot. product_at ring times l.left slot k) (take l.slot-index l.right)) l.slot-index;
+          (products_at ring times l.left (take l.slot-index l.right));
       cost : l.steps ≤ l.initial.steps + l.slot-index;
     }

@@ -1,14 +1,13 @@
-use Rattle.std.proofs.Common.{◌≡◌, ℕ, ◌+◌, ◌*◌, ◌<◌, ◌≤◌, length, arith, refl, ap, subst, sym, ◌∙◌}
+use Rattle.std.proofs.Common.{◌≡◌, ℕ, ◌+◌, ◌≤◌, length, arith, refl, ap, subst, sym, ◌∙◌}
 use Rattle.std.proofs.Math.Nat.{mul-le-mul_left}
 use Rattle.std.proofs.lemmas.Result.{IfOk-weaker}
 use Rattle.monoid_kit.specs.Items.{IsIn}
 use Rattle.monoid_kit.proofs.Items.{IsIn-read}
-use Rattle.semiring_kit.specs.Total.{total}
 use Rattle.key_map.specs.Convolution.{convolution}
-use Rattle.key_map.specs.Slots.{value_in, product_at, FitsSlots}
+use Rattle.key_map.specs.Slots.{value_in, products_at, FitsSlots}
 use Rattle.key_map.specs.Rows.{slots_from}
 use Rattle.key_map.proofs.Slots.{fits-keys, fits-good}
-use Rattle.key_map.proofs.Rows.{gathered-none, gathered-same, gathered-more, gathered-all}
+use Rattle.key_map.proofs.Rows.{gathered-none, gathered-more, gathered-all}
 use Rattle.key_map.proofs.Maps.{empty-length, empty-IsGoodRow, keys-below, given-good, reaches-at_slots, products-are_sound, gathered-convolution, convolution-is_sound, slots-fit, slots-value}
 use Rattle.key_map.proofs.sparse_kit.SparseKitMapKit.convolve.Goals as goal
 
@@ -43,8 +42,7 @@ loop-left-init g c =
     let row = c.in_ok-row.row.items in
     let empty = rw c.size.ensures at c.in_ok-row.ensures in
     record {
-      gathered = gathered-same laws row row (λ k. ring.zero) (λ k. ring.zero) 0 (0 * length c.args.b.now.items)
-          (λ k. refl) (omega arith) (gathered-none laws row (empty-IsGoodRow ring size row empty));
+      gathered = gathered-none laws row (empty-IsGoodRow ring size row empty);
       cost = omega arith;
     }
 
@@ -61,15 +59,14 @@ loop-left-preserved g c =
     let empty = rw c.size.ensures at c.in_ok-row.ensures in
     let products = rw c.deref.ensures.value at c.in_ok-gather_products.ensures.gathered in
     record {
-      gathered = gathered-more laws (λ left k. total ring (λ right. product_at ring times left right k) b)
+      gathered = gathered-more laws (λ left k. products_at ring times left b k)
           c.deref-left-items.result.now i c.left-item.result
-          (λ k. total ring (λ right. product_at ring times c.left-item.result right k) b)
+          (products_at ring times c.left-item.result b)
           row c.loop-left.row.items c.gather_products.new.row.items
-          (i * length b) (length b) ((i + 1) * length b)
           (empty-IsGoodRow ring size row empty)
           (λ left left_in k. products-are_sound laws size a b c.requires.left_fits c.requires.right_fits times left
           (subst (IsIn left) c.deref-left-items.ensures.value left_in) k)
-          c.loop-left-test.true c.left-item.is (λ k. refl) (omega arith)
+          c.loop-left-test.true c.left-item.is (λ k. refl)
           c.loop-left.invariant.gathered products;
       cost =
           let before = c.loop-left.invariant.cost in
@@ -109,20 +106,19 @@ returns g c =
     let row = c.in_ok-row.row.items in
     let new = c.loop-left.row.items in
     let i = c.loop-left.left-index in
-    let most = i * length b in
     let empty = rw c.size.ensures at c.in_ok-row.ensures in
     let gathered = rw c.deref-left-items.ensures.value at
-    (gathered-all laws (λ left k. total ring (λ right. product_at ring times left right k) b)
-    c.deref-left-items.result.now i row new most most c.loop-left-test.false (omega arith) c.loop-left.invariant.gathered) in
-    let convolved = gathered-convolution laws size a b c.requires.left_fits c.requires.right_fits times row new most gathered in
+    (gathered-all laws (λ left k. products_at ring times left b k)
+    c.deref-left-items.result.now i row new c.loop-left-test.false c.loop-left.invariant.gathered) in
+    let convolved = gathered-convolution laws size a b c.requires.left_fits c.requires.right_fits times row new gathered in
     let added = convolution ring size times (value_in ring.zero a) (value_in ring.zero b) in
     record {
       fits = IfOk-weaker c.slots_of.result (λ slots. slots.items ≡ slots_from 0 new) (λ slots. FitsSlots ring 0 size slots.items)
-          (λ slots is. subst (FitsSlots ring 0 size) (sym is) (slots-fit laws size row new added most empty convolved)) c.slots_of.ensures;
+          (λ slots is. subst (FitsSlots ring 0 size) (sym is) (slots-fit laws size row new added empty convolved)) c.slots_of.ensures;
       value = IfOk-weaker c.slots_of.result (λ slots. slots.items ≡ slots_from 0 new)
           (λ slots. (k : ℕ) → value_in ring.zero slots.items k ≡ added k)
           (λ slots is k. ap (λ items. value_in ring.zero items k) is
-          ∙ slots-value laws size row new added most empty convolved k
+          ∙ slots-value laws size row new added empty convolved k
           (convolution-is_sound laws size a b c.requires.left_fits c.requires.right_fits times k)) c.slots_of.ensures;
       cost =
           let before = c.loop-left.invariant.cost in

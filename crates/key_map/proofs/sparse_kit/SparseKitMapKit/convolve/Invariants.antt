@@ -1,6 +1,6 @@
 use Rattle.std.proofs.Common.{◌+◌, ◌*◌, ◌≤◌, length, take}
 use Rattle.semiring_kit.specs.Total.{total}
-use Rattle.key_map.specs.Slots.{product_at}
+use Rattle.key_map.specs.Slots.{products_at}
 use Rattle.key_map.specs.Rows.{IsGathered}
 use Rattle.key_map.proofs.sparse_kit.SparseKitMapKit.convolve.Given as goal
 
@@ -11,7 +11,6 @@ invariant-loop-left g l =
     let b = l.b.items in
     record {
       gathered : IsGathered ring l.initial.row.items l.row.items
-          (λ k. total ring (λ left. total ring (λ right. product_at ring times left right k) b) (take l.left-index l.left-items))
-          (l.left-index * length b);
+          (λ k. total ring (λ left. products_at ring times left b k) (take l.left-index l.left-items));
       cost : l.steps ≤ l.initial.steps + l.left-index * length b;
     }
