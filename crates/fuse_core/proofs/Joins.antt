@@ -1,0 +1,113 @@
+-- The sums that the parts of an interval show, from those of its halves. They need a semiring, and a key and a weight
+-- that take concatenations to products.
+use Rattle.std.proofs.Common.{◌≡◌, refl, sym, ap, ◌∙◌, subst, ℕ, ◌+◌, ◌-◌, ◌<◌, ◌≤◌, List, [], ◌∷◌, ◌++◌, map, nat_eq}
+use Rattle.std.proofs.lemmas.List.{map-append}
+use Rattle.std.specs.List.{flat_map}
+use Rattle.std.specs.List.Sorted.{IsPermutation}
+use Rattle.monoid_kit.specs.Items.{IsIn, pairs}
+use Rattle.monoid_kit.proofs.Products.{product_by-same, product_by-map, product_by-append}
+use Rattle.monoid_kit.proofs.Permutations.{product_by-permuted}
+use Rattle.semiring_kit.specs.Semiring.{SemiringOn, IsSemiring}
+use Rattle.semiring_kit.specs.Total.{masked, total_at_key}
+use Rattle.semiring_kit.proofs.Sums.{masked-IsAdditive}
+use Rattle.key_map.specs.Convolution.{convolution}
+use Rattle.key_map.proofs.Convolutions.{convolution-same, convolution_of_totals-pairs}
+use Rattle.shape_gen.specs.declared.mark.Mark.{Mark}
+use Rattle.shape_gen.specs.declared.shape.Shape.{Shape}
+use Rattle.shape_gen.specs.Candidates.{run}
+use Rattle.shape_gen.specs.Parts.{Whole, Pre, Suf, Seg, part}
+use Rattle.shape_gen.proofs.Lists.{concats, map-map, flat_map-same}
+use Rattle.shape_gen.proofs.Parts.{whole-parts, pre-parts, suf-parts, seg-parts}
+use Rattle.fuse_core.specs.Stands.{ShowsSums}
+use Rattle.fuse_core.proofs.Weighs.{Weighs}
+
+map-flat_map : {A B C : Type 0} (f : B → C) (g : A → List B) (xs : List A) → map f (flat_map g xs) ≡ flat_map (λ x. map f (g x)) xs
+map-flat_map f g [] = refl
+map-flat_map f g (x ∷ xs) = map-append f (g x) (flat_map g xs) ∙ ap (λ l. map f (g x) ++ l) (map-flat_map f g xs)
+
+-- all concatenations are the pairs, each joined
+concats-pairs : {X : Type 0} (cs ds : List (List X)) → map (λ p. p.0 ++ p.1) (pairs cs ds) ≡ concats cs ds
+concats-pairs {X} cs ds =
+    let joined : List X × List X → List X = λ p. p.0 ++ p.1 in
+    map-flat_map joined (λ c. map (λ d. (c, d)) ds) cs
+    ∙ flat_map-same (λ c. map joined (map (λ d. (c, d)) ds)) (λ c. map (λ d. c ++ d) ds) cs (λ c. map-map joined (λ d. (c, d)) ds)
+
+module _ {E : Type 0} {r : SemiringOn E} (laws : IsSemiring r) {size : ℕ} {times : ℕ → ℕ → ℕ} {key : List Mark → ℕ} {weight : List Mark → E}
+    (weighs : Weighs r size times key weight) where
+  masked_sound : (m : ℕ) (c : List Mark) → r.is_sound (masked r (nat_eq (key c) m) (weight c))
+  masked_sound m c = (masked-IsAdditive laws (nat_eq (key c) m)).keeps_elements (weight c) (weighs.is_sound c)
+
+  -- the convolution of what two lists show is what all their concatenations show
+  pub product_shows : (cs ds : List (List Mark)) (x y : ℕ → E) → ShowsSums r key weight cs x → ShowsSums r key weight ds y
+      → ShowsSums r key weight (concats cs ds) (convolution r size times x y)
+  product_shows cs ds x y left right m =
+      convolution-same r size times x (total_at_key r key weight cs) y (total_at_key r key weight ds) m left right
+      ∙ convolution_of_totals-pairs laws size times key weight cs key weight ds m
+      (λ c c_in. weighs.is_sound c) (λ c c_in. weighs.in_range c) (λ d d_in. weighs.is_sound d) (λ d d_in. weighs.in_range d)
+      ∙ product_by-same r.zero r.add
+      (λ p. masked r (nat_eq (times (key p.0) (key p.1)) m) (r.mul (weight p.0) (weight p.1)))
+      (λ p. masked r (nat_eq (key (p.0 ++ p.1)) m) (weight (p.0 ++ p.1))) (pairs cs ds)
+      (λ p p_in. ap (λ k. masked r (nat_eq k m) (r.mul (weight p.0) (weight p.1))) (sym (weighs.key_append p.0 p.1))
+      ∙ ap (masked r (nat_eq (key (p.0 ++ p.1)) m)) (sym (weighs.weight_append p.0 p.1)))
+      ∙ sym (product_by-map r.zero r.add (λ c. masked r (nat_eq (key c) m) (weight c)) (λ p. p.0 ++ p.1) (pairs cs ds))
+      ∙ ap (λ l. total_at_key r key weight l m) (concats-pairs cs ds)
+
+  -- the sums of what two lists show are what both together show
+  pub sum_shows : (cs ds : List (List Mark)) (x y : ℕ → E) → ShowsSums r key weight cs x → ShowsSums r key weight ds y
+      → ShowsSums r key weight (cs ++ ds) (λ m. r.add (x m) (y m))
+  sum_shows cs ds x y left right m =
+      ap (λ a. r.add a (y m)) (left m) ∙ ap (r.add (total_at_key r key weight cs m)) (right m)
+      ∙ sym (product_by-append laws.addition.monoid (λ c. masked r (nat_eq (key c) m) (weight c)) cs ds
+      (λ c c_in. masked_sound m c) (λ d d_in. masked_sound m d))
+
+  -- the order of a list doesn't show
+  pub permuted_shows : (cs ds : List (List Mark)) (x : ℕ → E) → IsPermutation cs ds → ShowsSums r key weight ds x
+      → ShowsSums r key weight cs x
+  permuted_shows cs ds x permuted shows m =
+      shows m ∙ product_by-permuted laws.addition (λ c. masked r (nat_eq (key c) m) (weight c)) (masked_sound m) cs ds permuted
+
+  module _ (shape : Shape) (labels lo mid hi : ℕ) (left : lo ≤ mid) (right : mid ≤ hi) where
+    pub whole_shows : (x y : ℕ → E) → ShowsSums r key weight (part shape labels Whole lo mid) x
+        → ShowsSums r key weight (part shape labels Whole mid hi) y
+        → ShowsSums r key weight (part shape labels Whole lo hi) (convolution r size times x y)
+    whole_shows x y xs ys =
+        subst (λ l. ShowsSums r key weight l (convolution r size times x y)) (sym (whole-parts shape labels lo mid hi left right))
+        (product_shows (part shape labels Whole lo mid) (part shape labels Whole mid hi) x y xs ys)
+
+    pub pre_shows : (whole pre later : ℕ → E) → ShowsSums r key weight (run lo (mid - lo) ∷ []) whole
+        → ShowsSums r key weight (part shape labels Pre lo mid) pre
+        → ShowsSums r key weight (part shape labels Pre mid hi) later
+        → ShowsSums r key weight (part shape labels Pre lo hi) (λ m. r.add (pre m) (convolution r size times whole later m))
+    pre_shows whole pre later wholes pres laters =
+        subst (λ l. ShowsSums r key weight l (λ m. r.add (pre m) (convolution r size times whole later m)))
+        (sym (pre-parts shape labels lo mid hi left right))
+        (sum_shows (part shape labels Pre lo mid) (concats (run lo (mid - lo) ∷ []) (part shape labels Pre mid hi))
+        pre (convolution r size times whole later) pres
+        (product_shows (run lo (mid - lo) ∷ []) (part shape labels Pre mid hi) whole later wholes laters))
+
+    pub suf_shows : (suf earlier whole : ℕ → E) → ShowsSums r key weight (part shape labels Suf mid hi) suf
+        → ShowsSums r key weight (part shape labels Suf lo mid) earlier
+        → ShowsSums r key weight (run mid (hi - mid) ∷ []) whole
+        → ShowsSums r key weight (part shape labels Suf lo hi) (λ m. r.add (suf m) (convolution r size times earlier whole m))
+    suf_shows suf earlier whole sufs earliers wholes =
+        subst (λ l. ShowsSums r key weight l (λ m. r.add (suf m) (convolution r size times earlier whole m)))
+        (sym (suf-parts shape labels lo mid hi left right))
+        (sum_shows (part shape labels Suf mid hi) (concats (part shape labels Suf lo mid) (run mid (hi - mid) ∷ []))
+        suf (convolution r size times earlier whole) sufs
+        (product_shows (part shape labels Suf lo mid) (run mid (hi - mid) ∷ []) earlier whole earliers wholes))
+
+    pub seg_shows : (earlier later suf pre : ℕ → E) → ShowsSums r key weight (part shape labels Seg lo mid) earlier
+        → ShowsSums r key weight (part shape labels Seg mid hi) later
+        → ShowsSums r key weight (part shape labels Suf lo mid) suf
+        → ShowsSums r key weight (part shape labels Pre mid hi) pre
+        → ShowsSums r key weight (part shape labels Seg lo hi)
+        (λ m. r.add (earlier m) (r.add (later m) (convolution r size times suf pre m)))
+    seg_shows earlier later suf pre earliers laters sufs pres =
+        let crossing = concats (part shape labels Suf lo mid) (part shape labels Pre mid hi) in
+        permuted_shows (part shape labels Seg lo hi) (part shape labels Seg lo mid ++ (part shape labels Seg mid hi ++ crossing))
+        (λ m. r.add (earlier m) (r.add (later m) (convolution r size times suf pre m)))
+        (seg-parts shape labels lo mid hi left right)
+        (sum_shows (part shape labels Seg lo mid) (part shape labels Seg mid hi ++ crossing)
+        earlier (λ m. r.add (later m) (convolution r size times suf pre m)) earliers
+        (sum_shows (part shape labels Seg mid hi) crossing later (convolution r size times suf pre) laters
+        (product_shows (part shape labels Suf lo mid) (part shape labels Pre mid hi) suf pre sufs pres)))

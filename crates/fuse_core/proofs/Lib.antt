@@ -1,0 +1,6 @@
+pub mod Weighs
+pub mod Joins
+pub mod Picks
+pub mod Reading
+pub mod Halves
+pub mod Leaves

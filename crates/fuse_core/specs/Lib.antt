@@ -1,0 +1,4 @@
+pub mod Letters
+pub mod Stands
+pub mod Plans
+pub mod Places
