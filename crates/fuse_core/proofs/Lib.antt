@@ -4,3 +4,4 @@ pub mod Picks
 pub mod Reading
 pub mod Halves
 pub mod Leaves
+pub mod Accepted

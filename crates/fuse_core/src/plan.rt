@@ -23,10 +23,10 @@ use step_count::Steps;
 /// A shape over rows and labels, with the kit of its maps and a letter for each row and label.
 #[derive(Drop)]
 pub struct Plan<K: MapKit> {
-    shape: Shape,
+    pub(crate) shape: Shape,
     rows: u32,
     labels: u32,
-    kit: K,
+    pub(crate) kit: K,
     letters: Vec<Letter<<K::Kit as Semiring>::Elem>>,
 }
 

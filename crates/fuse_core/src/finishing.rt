@@ -1,0 +1,92 @@
+//! The answer of all rows: the sum over the accepted candidates.
+
+ghost use Rattle.std.specs.Prelude.{◌≡◌, length, IfOk};
+ghost use Rattle.std.specs.List.{range_with_len};
+ghost use Rattle.semiring_kit.specs.Semiring.{IsGood};
+ghost use Rattle.semiring_kit.specs.Total.{total, masked};
+ghost use Rattle.shape_gen.specs.Candidates.{candidates};
+ghost use Rattle.fuse_core.specs.Letters.{key_of, weight_of};
+ghost use Rattle.fuse_core.specs.Plans.{accepts, accepted_sum};
+
+use crate::letter::Tuple;
+use crate::plan::Plan;
+use interval_kit::Fused;
+use key_map::MapKit;
+use monoid_kit::Monoid;
+use semiring_kit::Semiring;
+use shape_gen::Shape;
+use std::alloc::{AllocError, Global};
+
+/// The sum of the weights of exactly those candidates whose keys are accepted, from a value that stands for all rows.
+/// `accept` has an entry for each key. A sum takes time in proportion to the number of keys.
+pub fn finish<K: MapKit>(
+    alloc: Global,
+    plan: &Plan<K>,
+    value: &Tuple<K::Map>,
+    accept: &[bool],
+) -> Result<<K::Kit as Semiring>::Elem, AllocError>
+    requires stands { ⟦<Plan<K> as Fused>⟧.stands plan.now 0 plan.now.rows value.now }
+    requires one_a_key { length accept.now ≡ K.Keys.size (K.keys plan.now.kit) }
+    ensures { let ring = K.Kit.ring (K.kit plan.now.kit) in
+        let key = key_of (K.Keys.unit (K.keys plan.now.kit)) (K.Keys.mul (K.keys plan.now.kit)) plan.now.labels plan.now.letters in
+        let weight = weight_of ring plan.now.labels plan.now.letters in
+        let all = candidates plan.now.shape plan.now.rows plan.now.labels in
+        IfOk result (λ sum. sum ≡ accepted_sum ring key weight accept.now all) }
+{
+    match plan.shape {
+        Shape::Sublists | Shape::Assign => accepted_of(alloc, &plan.kit, &value.maps[0], accept),
+        Shape::Prefixes | Shape::Suffixes => {
+            let sum = accepted_of(alloc, &plan.kit, &value.maps[1], accept)?;
+            with_empty(alloc, &plan.kit, sum, accept)
+        }
+        Shape::Segments => {
+            let sum = accepted_of(alloc, &plan.kit, &value.maps[3], accept)?;
+            with_empty(alloc, &plan.kit, sum, accept)
+        }
+    }
+}
+
+/// The sum of a map's values at the accepted keys.
+fn accepted_of<K: MapKit>(
+    alloc: Global,
+    kit: &K,
+    map: &K::Map,
+    accept: &[bool],
+) -> Result<<K::Kit as Semiring>::Elem, AllocError>
+    requires fits { K.fits kit.now map.now }
+    requires one_a_key { length accept.now ≡ K.Keys.size (K.keys kit.now) }
+    ensures value { let ring = K.Kit.ring (K.kit kit.now) in
+        IfOk result (λ sum. sum ≡ total ring (λ k. masked ring (accepts accept.now k) (K.value_at kit.now map.now k))
+        (range_with_len 0 (K.Keys.size (K.keys kit.now)))) }
+    ensures is_good { IfOk result (IsGood (K.Kit.ring (K.kit kit.now))) }
+{
+    let mut sum = kit.kit().zero(alloc)?;
+    for key in 0..kit.keys().size() {
+        if accept[key as usize] {
+            let value = kit.get(alloc, map, key)?;
+            sum = kit.kit().add(alloc, &sum, &value)?;
+        }
+    }
+    Ok(sum)
+}
+
+/// The sum with the empty candidate, where its key is accepted.
+fn with_empty<K: MapKit>(
+    alloc: Global,
+    kit: &K,
+    sum: <K::Kit as Semiring>::Elem,
+    accept: &[bool],
+) -> Result<<K::Kit as Semiring>::Elem, AllocError>
+    requires one_a_key { length accept.now ≡ K.Keys.size (K.keys kit.now) }
+    requires is_good { IsGood (K.Kit.ring (K.kit kit.now)) sum }
+    ensures { let ring = K.Kit.ring (K.kit kit.now) in
+        let empty = masked ring (accepts accept.now (K.Keys.unit (K.keys kit.now))) ring.one in
+        IfOk result (λ with_empty. with_empty ≡ ring.add empty sum) }
+{
+    if accept[kit.keys().unit() as usize] {
+        let one = kit.kit().one(alloc)?;
+        kit.kit().add(alloc, &one, &sum)
+    } else {
+        Ok(sum)
+    }
+}
