@@ -50,11 +50,13 @@ module _ {E : Type 0} {is_element : E → Type 0} {unit : E} {mul : E → E → 
       let a = get_or xs i d in
       let b = get_or xs j d in
       elim (cases_lt i j) [
-        inl less ↦ product-exchange xs i j d less j_in
-      | inr more ↦ elim (cases_eq i j) [
-          inl same ↦ ap (λ k. product (set (set xs i (get_or xs k d)) k a)) (sym same)
+        | inl less ↦ product-exchange xs i j d less j_in
+        | inr more ↦ elim (cases_eq i j) [
+          | inl same ↦ ap (λ k. product (set (set xs i (get_or xs k d)) k a)) (sym same)
               ∙ ap product (set-set xs i a a ∙ set-get_or xs i d)
-        | inr other ↦ ap product (set_comm xs i j b a other) ∙ product-exchange xs j i d (omega arith) i_in ] ]
+          | inr other ↦ ap product (set_comm xs i j b a other) ∙ product-exchange xs j i d (omega arith) i_in
+        ]
+      ]
 
   pub product_by-permuted : (xs ys : List X) → IsPermutation xs ys → product_by unit mul f ys ≡ product_by unit mul f xs
   unfolding product
