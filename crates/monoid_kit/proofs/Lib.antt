@@ -1,3 +1,4 @@
 pub mod Items
 pub mod Products
 pub mod Keyed
+pub mod Permutations
