@@ -29,20 +29,24 @@ pub gather-requires : goal.gather-requires
 gather-requires g c =
     let monoid = g.met.M.Monoid.laws c.args.self.now.keys in
     let laws = g.met.S.Semiring.laws c.args.self.now.kit in
+    let left = c.args.left.now in
     let slot = c.slot-item.result in
     let slot_in = IsIn-read c.args.right.now c.loop-slot.slot-index slot c.loop-slot-test.true c.slot-item.is in
+    let slot_key = c.requires.right_are_elements slot slot_in in
+    let slot_good = c.requires.right_are_good slot slot_in in
+    let reaches = c.requires.reaches_add_up slot slot_in in
+    let product_key = monoid.product_is_element left.key slot.key c.requires.left_is_element slot_key in
+    let swapped_key = monoid.product_is_element slot.key left.key slot_key c.requires.left_is_element in
+    let product_good = mul_is_good laws left.elem slot.elem c.requires.left_is_good slot_good reaches in
+    let swapped_good = mul_is_good laws slot.elem left.elem slot_good c.requires.left_is_good (omega arith) in
     record {
       key_is_in_row =
-          let product = monoid.product_is_element c.args.left.now.key slot.key c.requires.left_is_element
-          (c.requires.right_are_elements slot slot_in) in
           let key = c.mul-key.ensures in
           let same = c.loop-slot.invariant.gathered.same_length in
           let size = c.requires.row_has_size in
-          omega (arith, product);
+          omega (arith, product_key, swapped_key);
       row_is_good = c.loop-slot.invariant.gathered.values_are_good;
-      elem_is_good = rw c.in_ok-elem.ensures.value
-          (mul_is_good laws c.args.left.now.elem slot.elem c.requires.left_is_good
-          (c.requires.right_are_good slot slot_in) (c.requires.reaches_add_up slot slot_in));
+      elem_is_good = rw c.in_ok-elem.ensures.value (assumption (product_good, swapped_good));
     }
 
 pub loop-slot-init : goal.loop-slot-init
