@@ -35,8 +35,8 @@ module _ (p : Partition) (t : BlockTable) (rule : DealingRule p t) (id : ℕ) (v
   word_else : (c : ℕ) → c ≢ b → slice_index words_after c ≡ slice_index t.words c
   word_else c differ = get_or-set_other t.words b c (n + 1) 0 differ
 
-  -- a hand after the draw has the numbers of a hand before it
-  pub record Stood (i : ℕ) (u : View) : Type 0 where
+  -- a hand stood in this place before the draw, of the same worker numbers
+  pub record StoodBefore (i : ℕ) (u : View) : Type 0 where
     pub was : View
     pub stood : IsAt t i was
     pub partition : u.partition ≡ was.partition
@@ -44,7 +44,7 @@ module _ (p : Partition) (t : BlockTable) (rule : DealingRule p t) (id : ℕ) (v
     pub spare : u.spare ≡ was.spare
 
   module _ (w : View) (same_partition : w.partition ≡ v.partition) (same_number : w.number ≡ v.number) (same_spare : w.spare ≡ v.spare) where
-    stood : (i : ℕ) (u : View) → get_elem? (set t.views id w) i ≡ some u → Stood i u
+    stood : (i : ℕ) (u : View) → get_elem? (set t.views id w) i ≡ some u → StoodBefore i u
     stood i u here = ⊎_elim
         (λ e. record {
           was = v;
@@ -73,8 +73,8 @@ module _ (p : Partition) (t : BlockTable) (rule : DealingRule p t) (id : ℕ) (v
         let r = stood j x there in
         let number = s.number in
         let spare = s.spare in
-        let number' = r.number in
-        let spare' = r.spare in
+        let other_number = r.number in
+        let other_spare = r.spare in
         ⊎_elim (λ lt. inl (omega arith)) (λ lt. inr (omega arith)) (rule.numbers_apart i j s.was r.was differ s.stood r.stood)
 
     dealt_kept : sum_by (λ (u : View). u.spare + 1) (set t.views id w) ≡ p.workers
