@@ -98,14 +98,13 @@ module _ (p : Partition) (t : BlockTable) (rule : DealingRule p t) (id : ℕ) (v
     once_kept c k c_in_range of_block =
         let before = rule.taken_once c k c_in_range of_block in
         dite (ℕ_discrete c b)
-        (λ same_block. dite (ℕ_discrete k (n))
+        (λ same_block. dite (ℕ_discrete k n)
         (λ same_place.
         let here : block_begin p c + k ≡ y = λ i. block_begin p (same_block i) + same_place i in
         let word : slice_index words_after c ≡ n + 1 = ap (slice_index words_after) same_block ∙ word_drawn in
         let was : slice_index t.words c ≡ n = ap (slice_index t.words) same_block in
-        let gain = taken_here in
-        let gain' : times_taken (set t.views id (gained v y)) (block_begin p c + k) ≡ times_taken t.views (block_begin p c + k) + 1 =
-        subst (λ (x : ℕ). times_taken (set t.views id (gained v y)) x ≡ times_taken t.views x + 1) (sym here) gain in
+        let gain : times_taken (set t.views id (gained v y)) (block_begin p c + k) ≡ times_taken t.views (block_begin p c + k) + 1 =
+        subst (λ (x : ℕ). times_taken (set t.views id (gained v y)) x ≡ times_taken t.views x + 1) (sym here) taken_here in
         omega arith)
         (λ other_place.
         let word : slice_index words_after c ≡ n + 1 = ap (slice_index words_after) same_block ∙ word_drawn in
@@ -115,7 +114,7 @@ module _ (p : Partition) (t : BlockTable) (rule : DealingRule p t) (id : ℕ) (v
         omega arith))
         (λ other_block.
         let word = word_else c other_block in
-        let same = taken_else (block_begin p c + k) (λ e. places_differ p b c (n) k (λ f. other_block (sym f)) inside of_block e) in
+        let same = taken_else (block_begin p c + k) (λ e. places_differ p b c n k (λ f. other_block (sym f)) inside of_block e) in
         omega arith)
 
     met_once_kept : (i : ℕ) (u : View) (c : ℕ) → get_elem? (set t.views id (gained v y)) i ≡ some u → copies c u.met ≤ 1
