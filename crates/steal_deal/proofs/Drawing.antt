@@ -35,8 +35,8 @@ module _ (p : Partition) (t : BlockTable) (rule : DealingRule p t) (id : ℕ) (v
   word_else : (c : ℕ) → c ≢ b → slice_index words_after c ≡ slice_index t.words c
   word_else c differ = get_or-set_other t.words b c (n + 1) 0 differ
 
-  -- a hand after the draw has the numbers of a hand before it
-  pub record Stood (i : ℕ) (u : View) : Type 0 where
+  -- a hand stood in this place before the draw, of the same worker numbers
+  pub record StoodBefore (i : ℕ) (u : View) : Type 0 where
     pub was : View
     pub stood : IsAt t i was
     pub partition : u.partition ≡ was.partition
@@ -44,7 +44,7 @@ module _ (p : Partition) (t : BlockTable) (rule : DealingRule p t) (id : ℕ) (v
     pub spare : u.spare ≡ was.spare
 
   module _ (w : View) (same_partition : w.partition ≡ v.partition) (same_number : w.number ≡ v.number) (same_spare : w.spare ≡ v.spare) where
-    stood : (i : ℕ) (u : View) → get_elem? (set t.views id w) i ≡ some u → Stood i u
+    stood : (i : ℕ) (u : View) → get_elem? (set t.views id w) i ≡ some u → StoodBefore i u
     stood i u here = ⊎_elim
         (λ e. record {
           was = v;
@@ -73,8 +73,8 @@ module _ (p : Partition) (t : BlockTable) (rule : DealingRule p t) (id : ℕ) (v
         let r = stood j x there in
         let number = s.number in
         let spare = s.spare in
-        let number' = r.number in
-        let spare' = r.spare in
+        let other_number = r.number in
+        let other_spare = r.spare in
         ⊎_elim (λ lt. inl (omega arith)) (λ lt. inr (omega arith)) (rule.numbers_apart i j s.was r.was differ s.stood r.stood)
 
     dealt_kept : sum_by (λ (u : View). u.spare + 1) (set t.views id w) ≡ p.workers
@@ -98,14 +98,13 @@ module _ (p : Partition) (t : BlockTable) (rule : DealingRule p t) (id : ℕ) (v
     once_kept c k c_in_range of_block =
         let before = rule.taken_once c k c_in_range of_block in
         dite (ℕ_discrete c b)
-        (λ same_block. dite (ℕ_discrete k (n))
+        (λ same_block. dite (ℕ_discrete k n)
         (λ same_place.
         let here : block_begin p c + k ≡ y = λ i. block_begin p (same_block i) + same_place i in
         let word : slice_index words_after c ≡ n + 1 = ap (slice_index words_after) same_block ∙ word_drawn in
         let was : slice_index t.words c ≡ n = ap (slice_index t.words) same_block in
-        let gain = taken_here in
-        let gain' : times_taken (set t.views id (gained v y)) (block_begin p c + k) ≡ times_taken t.views (block_begin p c + k) + 1 =
-        subst (λ (x : ℕ). times_taken (set t.views id (gained v y)) x ≡ times_taken t.views x + 1) (sym here) gain in
+        let gain : times_taken (set t.views id (gained v y)) (block_begin p c + k) ≡ times_taken t.views (block_begin p c + k) + 1 =
+        subst (λ (x : ℕ). times_taken (set t.views id (gained v y)) x ≡ times_taken t.views x + 1) (sym here) taken_here in
         omega arith)
         (λ other_place.
         let word : slice_index words_after c ≡ n + 1 = ap (slice_index words_after) same_block ∙ word_drawn in
@@ -115,7 +114,7 @@ module _ (p : Partition) (t : BlockTable) (rule : DealingRule p t) (id : ℕ) (v
         omega arith))
         (λ other_block.
         let word = word_else c other_block in
-        let same = taken_else (block_begin p c + k) (λ e. places_differ p b c (n) k (λ f. other_block (sym f)) inside of_block e) in
+        let same = taken_else (block_begin p c + k) (λ e. places_differ p b c n k (λ f. other_block (sym f)) inside of_block e) in
         omega arith)
 
     met_once_kept : (i : ℕ) (u : View) (c : ℕ) → get_elem? (set t.views id (gained v y)) i ≡ some u → copies c u.met ≤ 1

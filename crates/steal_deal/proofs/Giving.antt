@@ -30,8 +30,9 @@ module _ (p : Partition) (v w : View) (b n : ℕ) (known : p ≡ v.partition) (n
       subst (λ (x : ℕ). GivesLeaf v b x w) here record {
         not_met = not_met;
         lowest = record {
-          of_block = (omega arith, omega arith);
           before = drawn.before;
+          within = omega arith;
+          is_next = omega arith;
           lower_gone = λ x of_block lower. let taken = taken_where v drawn.before b x in_view of_block in let start = of_block.0 in omega arith;
           others_left = λ x of_block upper. let taken = taken_where v drawn.before b x in_view of_block in omega arith;
         };
@@ -47,7 +48,8 @@ module _ (p : Partition) (v w : View) (b n : ℕ) (known : p ≡ v.partition) (n
         not_met = not_met;
         used_up = record {
           before = drawn.before;
-          gone = λ x of_block. let taken = taken_where v drawn.before b x in_view of_block in let start = of_block.0 in let stop = of_block.1 in omega arith;
+          none_left = omega arith;
+          all_gone = λ x of_block. let taken = taken_where v drawn.before b x in_view of_block in let start = of_block.0 in let stop = of_block.1 in omega arith;
         };
         joins = drawn.finds_none past;
       }

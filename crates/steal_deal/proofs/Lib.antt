@@ -6,3 +6,4 @@ pub mod Splitting
 pub mod Giving
 pub mod Seen
 pub mod Hands
+pub mod Keeping

@@ -28,45 +28,45 @@ module _ (p : Partition) (t : BlockTable) (rule : DealingRule p t) (id : ℕ) (v
   views_after = set t.views id (alone v) ++ next v ∷ []
 
   -- the hands after the split
-  data Stands (i : ℕ) (u : View) : Type 0 where
-    parent : i ≡ id → alone v ≡ u → Stands i u
-    other : i ≢ id → IsAt t i u → Stands i u
-    child : i ≡ length (set t.views id (alone v)) → next v ≡ u → Stands i u
+  data HandAfter (i : ℕ) (u : View) : Type 0 where
+    parent : i ≡ id → alone v ≡ u → HandAfter i u
+    other : i ≢ id → IsAt t i u → HandAfter i u
+    child : i ≡ length (set t.views id (alone v)) → next v ≡ u → HandAfter i u
 
-  stands : (i : ℕ) (u : View) → get_elem? views_after i ≡ some u → Stands i u
-  stands i u here = ⊎_elim
+  hand_after : (i : ℕ) (u : View) → get_elem? views_after i ≡ some u → HandAfter i u
+  hand_after i u here = ⊎_elim
       (λ old. ⊎_elim (λ e. parent e.0 e.1) (λ e. other e.0 e.1) (at_set t.views id i (alone v) u old))
       (λ new. child new.0 new.1)
       (at_end (set t.views id (alone v)) (next v) u i here)
 
-  partition_kept : (i : ℕ) (u : View) → Stands i u → u.partition ≡ p
+  partition_kept : (i : ℕ) (u : View) → HandAfter i u → u.partition ≡ p
   partition_kept i u (parent place is) = sym (ap (λ (x : View). x.partition) is) ∙ rule.partition id v at
   partition_kept i u (other place stood) = rule.partition i u stood
   partition_kept i u (child place is) = sym (ap (λ (x : View). x.partition) is) ∙ rule.partition id v at
 
-  below_kept : (i : ℕ) (u : View) → Stands i u → u.number + u.spare < p.workers
+  below_kept : (i : ℕ) (u : View) → HandAfter i u → u.number + u.spare < p.workers
   below_kept i u (parent place is) = let below = rule.numbers_below id v at in
       subst (λ (x : View). x.number + x.spare < p.workers) is (omega arith)
   below_kept i u (other place stood) = rule.numbers_below i u stood
   below_kept i u (child place is) = let below = rule.numbers_below id v at in
       subst (λ (x : View). x.number + x.spare < p.workers) is (omega arith)
 
-  apart_kept : (i j : ℕ) (u x : View) → i ≢ j → Stands i u → Stands j x → AreApart u x
-  apart_kept i j u x differ (parent place is) (parent place' is') = absurd (differ (place ∙ sym place'))
-  apart_kept i j u x differ (parent place is) (other place' stood) =
-      subst (λ (a : View). AreApart a x) is (⊎_elim (λ lt. inl (omega arith)) (λ lt. inr lt) (rule.numbers_apart id j v x (λ e. place' (sym e)) at stood))
-  apart_kept i j u x differ (parent place is) (child place' is') =
-      subst (λ (a : View). AreApart a x) is (subst (λ (b : View). AreApart (alone v) b) is' (inl (omega arith)))
-  apart_kept i j u x differ (other place stood) (parent place' is') =
-      subst (λ (a : View). AreApart u a) is' (⊎_elim (λ lt. inl lt) (λ lt. inr (omega arith)) (rule.numbers_apart i id u v place stood at))
-  apart_kept i j u x differ (other place stood) (other place' stood') = rule.numbers_apart i j u x differ stood stood'
-  apart_kept i j u x differ (other place stood) (child place' is') =
-      subst (λ (a : View). AreApart u a) is' (⊎_elim (λ lt. inl (omega arith)) (λ lt. inr (omega arith)) (rule.numbers_apart i id u v place stood at))
-  apart_kept i j u x differ (child place is) (parent place' is') =
-      subst (λ (a : View). AreApart a x) is (subst (λ (b : View). AreApart (next v) b) is' (inr (omega arith)))
-  apart_kept i j u x differ (child place is) (other place' stood) =
-      subst (λ (a : View). AreApart a x) is (⊎_elim (λ lt. inl (omega arith)) (λ lt. inr (omega arith)) (rule.numbers_apart id j v x (λ e. place' (sym e)) at stood))
-  apart_kept i j u x differ (child place is) (child place' is') = absurd (differ (place ∙ sym place'))
+  apart_kept : (i j : ℕ) (u x : View) → i ≢ j → HandAfter i u → HandAfter j x → AreApart u x
+  apart_kept i j u x differ (parent place is) (parent other_place other_is) = absurd (differ (place ∙ sym other_place))
+  apart_kept i j u x differ (parent place is) (other other_place stood) =
+      subst (λ (a : View). AreApart a x) is (⊎_elim (λ lt. inl (omega arith)) (λ lt. inr lt) (rule.numbers_apart id j v x (λ e. other_place (sym e)) at stood))
+  apart_kept i j u x differ (parent place is) (child other_place other_is) =
+      subst (λ (a : View). AreApart a x) is (subst (λ (b : View). AreApart (alone v) b) other_is (inl (omega arith)))
+  apart_kept i j u x differ (other place stood) (parent other_place other_is) =
+      subst (λ (a : View). AreApart u a) other_is (⊎_elim (λ lt. inl lt) (λ lt. inr (omega arith)) (rule.numbers_apart i id u v place stood at))
+  apart_kept i j u x differ (other place stood) (other other_place other_stood) = rule.numbers_apart i j u x differ stood other_stood
+  apart_kept i j u x differ (other place stood) (child other_place other_is) =
+      subst (λ (a : View). AreApart u a) other_is (⊎_elim (λ lt. inl (omega arith)) (λ lt. inr (omega arith)) (rule.numbers_apart i id u v place stood at))
+  apart_kept i j u x differ (child place is) (parent other_place other_is) =
+      subst (λ (a : View). AreApart a x) is (subst (λ (b : View). AreApart (next v) b) other_is (inr (omega arith)))
+  apart_kept i j u x differ (child place is) (other other_place stood) =
+      subst (λ (a : View). AreApart a x) is (⊎_elim (λ lt. inl (omega arith)) (λ lt. inr (omega arith)) (rule.numbers_apart id j v x (λ e. other_place (sym e)) at stood))
+  apart_kept i j u x differ (child place is) (child other_place other_is) = absurd (differ (place ∙ sym other_place))
 
   -- what all hands have together, but for the numbers to be given
   sum_kept : (f : View → ℕ) → f (alone v) + f (next v) ≡ f v → sum_by f views_after ≡ sum_by f t.views
@@ -75,7 +75,7 @@ module _ (p : Partition) (t : BlockTable) (rule : DealingRule p t) (id : ℕ) (v
       let changed = sum_by-set f t.views id v (alone v) at in
       omega arith
 
-  once_kept : (i : ℕ) (u : View) (b : ℕ) → Stands i u → copies b u.met ≤ 1
+  once_kept : (i : ℕ) (u : View) (b : ℕ) → HandAfter i u → copies b u.met ≤ 1
   once_kept i u b (parent place is) = subst (λ (x : View). copies b x.met ≤ 1) is (rule.met_once id v b at)
   once_kept i u b (other place stood) = rule.met_once i u b stood
   once_kept i u b (child place is) = subst (λ (x : View). copies b x.met ≤ 1) is (omega arith)
@@ -87,7 +87,7 @@ module _ (p : Partition) (t : BlockTable) (rule : DealingRule p t) (id : ℕ) (v
   taken_once b k in_range of_block = sum_kept (λ (u : View). copies (block_begin p b + k) u.taken) (omega arith) ∙ rule.taken_once b k in_range of_block
 
   met_once : (i : ℕ) (u : View) (b : ℕ) → IsAt after i u → copies b u.met ≤ 1
-  met_once i u b here = once_kept i u b (stands i u here)
+  met_once i u b here = once_kept i u b (hand_after i u here)
 
   met_after : (b : ℕ) → b < p.workers → times_met views_after b ≡ slice_index t.words b - block_size p b
   met_after b in_range = sum_kept (λ (u : View). copies b u.met) (omega arith) ∙ rule.met_after b in_range
@@ -97,9 +97,9 @@ module _ (p : Partition) (t : BlockTable) (rule : DealingRule p t) (id : ℕ) (v
       let dealt = sum_kept (λ (u : View). u.spare + 1) (omega arith) ∙ rule.numbers_dealt in
       record {
         words = rule.words;
-        partition = λ i u here. partition_kept i u (stands i u here);
-        numbers_below = λ i u here. below_kept i u (stands i u here);
-        numbers_apart = λ i j u x differ here there. apart_kept i j u x differ (stands i u here) (stands j x there);
+        partition = λ i u here. partition_kept i u (hand_after i u here);
+        numbers_below = λ i u here. below_kept i u (hand_after i u here);
+        numbers_apart = λ i j u x differ here there. apart_kept i j u x differ (hand_after i u here) (hand_after j x there);
         numbers_dealt = dealt;
         taken_once = taken_once;
         taken_below = λ y past. sum_kept (λ (u : View). copies y u.taken) (omega arith) ∙ rule.taken_below y past;

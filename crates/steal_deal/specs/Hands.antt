@@ -1,5 +1,6 @@
 -- Hands and blocks as contracts see them.
-use Rattle.std.specs.Prelude.{ℕ, ◌≡◌, ◌-◌, ◌^◌, ◌<◌, ◌≤◌, Bool, cond, List, map, get_or, false}
+use Rattle.std.specs.Prelude.{ℕ, ◌≡◌, ◌-◌, ◌^◌, ◌<◌, ◌≤◌}
+use Rattle.std.specs.Prelude.{Bool, false, cond, List, map, get_or}
 use Rattle.std.specs.List.{range_with_len}
 use Rattle.atomic_table.specs.Seated.{TableId}
 use Rattle.steal_deal.specs.declared.partition.Partition.{Partition}
@@ -24,11 +25,14 @@ pub record IsDealtWith (blocks : BlocksSeen) (hand : HandSeen) : Type 0 where
 
 -- the hand of a worker as it is dealt: both of its lists are empty
 abbrev pub new_hand : BlocksSeen → ℕ → HandSeen
-new_hand blocks number = record { table = blocks.table; view = fresh blocks.partition number 0 }
+new_hand blocks number =
+    record { table = blocks.table; view = fresh blocks.partition number 0 }
 
 -- the same while it is to give all the later numbers
 abbrev pub parent_hand : BlocksSeen → ℕ → HandSeen
-parent_hand blocks number = record { table = blocks.table; view = fresh blocks.partition number (blocks.partition.workers - 1 - number) }
+parent_hand blocks number =
+    let spare = blocks.partition.workers - 1 - number in
+    record { table = blocks.table; view = fresh blocks.partition number spare }
 
 -- a hand for each worker, in order
 abbrev pub new_hands : BlocksSeen → List HandSeen

@@ -10,7 +10,7 @@ one_below bound place = min 1 (bound - place)
 abbrev pub block_size : Partition → ℕ → ℕ
 block_size p b = p.count / p.workers + one_below (p.count % p.workers) b
 
--- the number at which a block begins: the first block at 0, and each later one where the one before it ends
+-- the number at which a block begins: the first one at 0, each later one where the one before it ends
 abbrev pub block_begin : Partition → ℕ → ℕ
 block_begin p zero = 0
 block_begin p (suc b) = block_begin p b + block_size p b

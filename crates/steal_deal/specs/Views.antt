@@ -1,11 +1,13 @@
 -- Views of hands: how they begin, change and are cut, and how often a number stands in them.
-use Rattle.std.specs.Prelude.{ℕ, ◌+◌, ◌-◌, ◌==◌, List, [], ◌∷◌, ◌++◌, count_by, sum_by}
+use Rattle.std.specs.Prelude.{ℕ, ◌+◌, ◌-◌, ◌==◌}
+use Rattle.std.specs.Prelude.{List, [], ◌∷◌, ◌++◌, count_by, sum_by}
 use Rattle.steal_deal.specs.declared.partition.Partition.{Partition}
 use Rattle.steal_deal.specs.declared.view.View.{View}
 
 -- a hand that has drawn nothing
 abbrev pub fresh : Partition → ℕ → ℕ → View
-fresh p number spare = record { partition = p; number = number; spare = spare; taken = []; met = [] }
+fresh p number spare =
+    record { partition = p; number = number; spare = spare; taken = []; met = [] }
 
 -- after a draw that gave the number y
 abbrev pub gained : View → ℕ → View

@@ -1,8 +1,15 @@
-//! The blocks as workers share them: a table with one word a block, which counts the draws made on it.
+//! The blocks as workers share them: a table with one word a block, which counts the draws made
+//! on it, and the two kinds of step on it, a draw and a split.
+//! The table's rule is in specs/Rule.antt, and what a draw tells its caller in specs/Steps.antt.
+ghost use Rattle.std.specs.Prelude.{◌≡◌, ◌-◌};
+ghost use Rattle.steal_deal.specs.Hands.{AreBlocks, BlocksSeen};
+ghost use Rattle.steal_deal.specs.Rule.{DealingRule};
+ghost use Rattle.steal_deal.specs.Steps.{draws};
+ghost use Rattle.steal_deal.specs.Views.{alone, fresh, next};
 
 use crate::partition::Partition;
 use crate::view::View;
-use atomic_table::{Play, Shared, Split, Table, TableRule};
+use atomic_table::{Play, Split, Table, TableRule};
 use std::alloc::Global;
 use std::marker::Model;
 
@@ -10,10 +17,6 @@ use std::marker::Model;
 pub(crate) struct Dealing;
 
 impl TableRule<(), View, Partition> for Dealing {
-    ghost use Rattle.std.specs.Prelude.{◌-◌};
-    ghost use Rattle.steal_deal.specs.Rule.{DealingRule};
-    ghost use Rattle.steal_deal.specs.Views.{fresh};
-
     ghost holds = { DealingRule };
 
     ghost first = { λ p. fresh p 0 (p.workers - 1) };
@@ -23,17 +26,13 @@ impl TableRule<(), View, Partition> for Dealing {
 pub(crate) struct Draw;
 
 impl Play<(), View> for Draw {
-    ghost use Rattle.steal_deal.specs.Steps.{draws};
-
     ghost then = { draws };
 }
 
-/// The numbers to be given go to a new hand, but for the parent's own.
+/// The next worker's hand, which is to give the further numbers in its parent's place.
 pub(crate) struct PassOn;
 
 impl Split<View> for PassOn {
-    ghost use Rattle.steal_deal.specs.Views.{alone, next};
-
     ghost left = { alone };
 
     ghost right = { next };
@@ -47,8 +46,6 @@ pub struct Blocks {
 }
 
 impl Model for Blocks {
-    ghost use Rattle.steal_deal.specs.Hands.{BlocksSeen, AreBlocks};
-
     ghost Value = { BlocksSeen };
 
     ghost view = { λ b. record { table = b.table.shared.table_id; partition = b.partition } };
@@ -57,8 +54,6 @@ impl Model for Blocks {
 }
 
 impl Blocks {
-    ghost use Rattle.std.specs.Prelude.{◌≡◌};
-
     /// The number of workers, which is that of the blocks. Takes no memory.
     pub fn workers(&self) -> u32
         ensures { result ≡ self.now.partition.workers }

@@ -1,4 +1,5 @@
-//! Dealing: the blocks, and a hand for each worker.
+//! Dealing: the blocks, and a hand for each worker. One hand is made first, which is to give all
+//! numbers of workers. It keeps its own and passes the others on to the next hand, and so on.
 ghost use Rattle.std.specs.Prelude.{◌≡◌, ◌≤◌, ◌<◌, ◌+◌, replicate, All, IfOk};
 ghost use Rattle.steal_deal.specs.Partition.{block_begin};
 ghost use Rattle.steal_deal.specs.Hands.{IsDealtWith, new_hand, new_hands, parent_hand};
@@ -17,7 +18,8 @@ pub struct Dealt {
     pub hands: Vec<Hand>,
 }
 
-/// Deals the numbers below `count` to 1 to 64 workers, in consecutive ascending blocks.
+/// Deals the numbers below `count` in consecutive ascending blocks, one for each worker. Hand i
+/// has the number i, and has drawn nothing. All memory of the draws is taken here.
 pub fn deal(alloc: Global, count: u32, workers: u32) -> Result<Dealt, AllocError>
     requires some_workers { 0 < workers }
     requires few_workers { workers ≤ MOST_WORKERS }
@@ -36,12 +38,6 @@ pub fn deal(alloc: Global, count: u32, workers: u32) -> Result<Dealt, AllocError
     }
     hands.push(last)?;
     Ok(Dealt { blocks, hands })
-}
-
-fn no_draws() -> [u64; MOST_WORKERS as usize]
-    ensures { result ≡ replicate MOST_WORKERS 0 }
-{
-    [0; MOST_WORKERS as usize]
 }
 
 /// The blocks, and the hand that has number 0 and is to give all the others.
@@ -70,4 +66,10 @@ impl Blocks {
         let seat = self.table.shared.split_seat::<PassOn>(&mut last.seat);
         Hand::of(seat, last.number + 1)
     }
+}
+
+fn no_draws() -> [u64; MOST_WORKERS as usize]
+    ensures { result ≡ replicate MOST_WORKERS 0 }
+{
+    [0; MOST_WORKERS as usize]
 }

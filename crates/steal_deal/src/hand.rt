@@ -1,18 +1,14 @@
 //! A worker's token, and the two calls that draw a number with it.
-
-ghost use Rattle.std.specs.Prelude.{◌≡◌, replicate, false};
+//! What a call gives is in specs/Draws.antt, and what contracts see of a hand in specs/Hands.antt.
+ghost use Rattle.std.specs.Prelude.{◌≡◌, ◌<◌, replicate, false};
+ghost use Rattle.steal_deal.specs.Hands.{HandSeen, IsDealtWith, IsHand};
+ghost use Rattle.steal_deal.specs.Views.{fresh};
 
 use crate::blocks::{Blocks, Draw};
 use crate::partition::MOST_WORKERS;
 use crate::view::View;
 use atomic_table::Seat;
 use std::marker::Model;
-
-fn no_blocks() -> [bool; MOST_WORKERS as usize]
-    ensures { result ≡ replicate MOST_WORKERS false }
-{
-    [false; MOST_WORKERS as usize]
-}
 
 /// What a draw gives: a leaf number, or that the block has no more.
 #[derive(Clone, Copy, Debug, PartialEq, Eq)]
@@ -21,8 +17,8 @@ pub enum Drawn {
     Empty,
 }
 
-/// One worker's token. Contracts see its number, the leaf numbers that it got as `taken`, and the
-/// blocks that it found empty as `met`.
+/// One worker's token. Contracts see its number, the leaf numbers that it got in order as `taken`,
+/// and the blocks that it found empty as `met`.
 #[derive(Drop)]
 pub struct Hand {
     pub(crate) seat: Seat<(), View>,
@@ -31,8 +27,6 @@ pub struct Hand {
 }
 
 impl Model for Hand {
-    ghost use Rattle.steal_deal.specs.Hands.{HandSeen, IsHand};
-
     ghost Value = { HandSeen };
 
     ghost view = { λ h. record { table = h.seat.table_id; view = h.seat.me.0 } };
@@ -41,10 +35,7 @@ impl Model for Hand {
 }
 
 impl Hand {
-    ghost use Rattle.std.specs.Prelude.{◌≡◌, ◌<◌};
-    ghost use Rattle.steal_deal.specs.Hands.{IsDealtWith};
     ghost use Rattle.steal_deal.specs.Draws.{Draws};
-    ghost use Rattle.steal_deal.specs.Views.{fresh};
 
     /// The hand of a seat whose view has drawn nothing.
     pub(crate) fn of(seat: Seat<(), View>, number: u32) -> Hand
@@ -52,7 +43,7 @@ impl Hand {
         requires in_range { number < seat.me.0.partition.workers }
         ensures { result ≡ record { table = seat.table_id; view = seat.me.0 } }
     {
-        let met = no_blocks();
+        let met = none_met();
         Hand { seat, number, met }
     }
 
@@ -89,4 +80,10 @@ impl Hand {
         self.met[from as usize] = true;
         Drawn::Empty
     }
+}
+
+fn none_met() -> [bool; MOST_WORKERS as usize]
+    ensures { result ≡ replicate MOST_WORKERS false }
+{
+    [false; MOST_WORKERS as usize]
 }

@@ -62,15 +62,7 @@ fn a_number_is_stolen_between_two_pops(rt: HostRuntime) -> Result<(), Fail> {
     Ok(())
 }
 
-#[derive(Clone, Copy)]
-struct Deal {
-    count: u32,
-    workers: u32,
-    // What the first and the last hand pop, each from the one number up to the other.
-    first: (u32, u32),
-    last: (u32, u32),
-}
-
+/// The numbers from the one up to the other.
 fn up_to(alloc: Global, range: (u32, u32)) -> Result<Vec<u32>, AllocError> {
     let mut numbers = Vec::new(alloc);
     for number in range.0..range.1 {
@@ -92,83 +84,42 @@ fn pop_each(alloc: Global, blocks: &Blocks, hands: Vec<Hand>) -> Result<Vec<Vec<
 
 #[test]
 fn every_number_is_popped_once_in_order(rt: HostRuntime) -> Result<(), Fail> {
+    // Numbers, workers, and what the first and the last hand pop, from one number up to another.
     let deals = [
-        Deal {
-            count: 0,
-            workers: 1,
-            first: (0, 0),
-            last: (0, 0),
-        },
-        Deal {
-            count: 0,
-            workers: 64,
-            first: (0, 0),
-            last: (0, 0),
-        },
-        Deal {
-            count: 1,
-            workers: 1,
-            first: (0, 1),
-            last: (0, 1),
-        },
-        Deal {
-            count: 1,
-            workers: 64,
-            first: (0, 1),
-            last: (1, 1),
-        },
-        Deal {
-            count: 64,
-            workers: 1,
-            first: (0, 64),
-            last: (0, 64),
-        },
-        Deal {
-            count: 64,
-            workers: 64,
-            first: (0, 1),
-            last: (63, 64),
-        },
-        Deal {
-            count: 64,
-            workers: 3,
-            first: (0, 22),
-            last: (43, 64),
-        },
+        (0, 1, (0, 0), (0, 0)),
+        (0, 64, (0, 0), (0, 0)),
+        (1, 1, (0, 1), (0, 1)),
+        (1, 64, (0, 1), (1, 1)),
+        (64, 1, (0, 64), (0, 64)),
+        (64, 64, (0, 1), (63, 64)),
+        (64, 3, (0, 22), (43, 64)),
     ];
-    for Deal {
-        count,
-        workers,
-        first,
-        last,
-    } in deals {
+    for (count, workers, first, last) in deals {
         let Dealt { blocks, hands } = deal(rt.alloc(), count, workers)?;
         let popped = pop_each(rt.alloc(), &blocks, hands)?;
-        assert_eq!(rt;
-            popped.len(),
-            workers as usize,
-            "hands of {count} over {workers}"
-        );
+        assert_eq!(rt; popped.len(), workers as usize, "{count} over {workers}");
         assert_eq!(rt;
             popped[0],
             up_to(rt.alloc(), first)?,
-            "first hand of {count} over {workers}"
+            "{count} over {workers}"
         );
         assert_eq!(rt;
             popped[popped.len() - 1],
             up_to(rt.alloc(), last)?,
-            "last hand of {count} over {workers}"
+            "{count} over {workers}"
         );
+        let all = popped.concat(rt.alloc())?;
         assert_eq!(rt;
-            popped.concat(rt.alloc())?,
+            all,
             up_to(rt.alloc(), (0, count))?,
-            "all of {count} over {workers}"
+            "{count} over {workers}"
         );
     }
     Ok(())
 }
 
-/// What each hand steals, each in a thread of its own where one can be started.
+/// What each hand steals, in a thread of its own where one can be started: hands are sent to
+/// threads, which share the blocks.
 fn steal_together<R: Threads + Sync>(
     rt: &R,
     alloc: Global,

@@ -1,5 +1,5 @@
-//! What a worker's hand knows of the blocks, for the rule of their table.
-
+//! What a worker's hand knows, for the rule of the blocks' table.
+//! How a view begins, changes and is cut is in specs/Views.antt.
 use crate::partition::Partition;
 use std::collections::LinkedList;
 
