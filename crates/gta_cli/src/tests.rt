@@ -121,6 +121,44 @@ fn cells_of_the_small_form(rt: HostRuntime) -> Result<(), Fail> {
     Ok(())
 }
 
+// The line of a test, the cells, and what is printed where.
+#[test]
+fn sums_under_a_bound(rt: HostRuntime) -> Result<(), Fail> {
+    let negative: &[u8] = b"refused 40: test 1, row 1: value -3 is negative\n";
+    let unbuilt: &[u8] = b"refused 1: not built yet\n";
+    let cases: [(&[u8], &[u8], &[u8], &[u8]); 10] = [
+        (b"test sum v <= 5\n", b"3\n4\n2\n", b"answer 5\n", b""),
+        (b"test sum v <= 0\n", b"0\n1\n", b"answer 0\n", b""),
+        (b"test sum v <= 7\n", b"3\n4\n2\n", b"answer 7\n", b""),
+        (b"test sum v <= 8\n", b"3\n4\n2\n", b"answer 7\n", b""),
+        (b"test sum v <= 5\n", b"", b"answer 0\n", b""),
+        (
+            b"test sum v <= 8190\n",
+            b"8191\n8190\n",
+            b"answer 8190\n",
+            b"",
+        ),
+        (b"test sum v <= 5\n", b"-3\n", b"", negative),
+        (b"test sum v <= 8191\n", b"1\n", b"", unbuilt),
+        (b"test sum v <= 00005\n", b"1\n", b"", unbuilt),
+        (b"test sum w <= 5\n", b"1\n", b"", unbuilt),
+    ];
+    for (test, cells, out, err) in cases {
+        let mut input = Vec::from_slice(rt.alloc(), b"gta 1\ncolumns v\ngenerate sublists\n")?;
+        input.extend_from_slice(test)?;
+        input.extend_from_slice(b"aggregate max v\nrows\nv\n")?;
+        input.extend_from_slice(cells)?;
+        let ended = called(&rt, rt.alloc(), &["run"], input.as_slice(), SMOOTH)?;
+        assert_eq!(rt; ended.out.as_slice(), out, "output at {test:?} {cells:?}");
+        assert_eq!(rt;
+            ended.err.as_slice(),
+            err,
+            "error output at {test:?} {cells:?}"
+        );
+    }
+    Ok(())
+}
+
 #[test]
 fn inputs_of_another_form_are_not_built(rt: HostRuntime) -> Result<(), Fail> {
     let inputs: [&[u8]; 8] = [

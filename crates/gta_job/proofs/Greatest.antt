@@ -1,10 +1,10 @@
 -- The greatest total over all sublists is the sum of what is positive.
-use Rattle.std.proofs.Common.{◌≡◌, refl, sym, ap, ◌∙◌, ℕ, zero, suc, ◌+◌, ◌-◌, ◌<◌, ◌≤◌, ℤ, pos, ◌+ℤ◌, ◌≤ℤ◌, List, [], ◌∷◌, ◌++◌, length, map, Option, Some, None, option_map, slice_index_or, arith}
+use Rattle.std.proofs.Common.{◌≡◌, refl, sym, ap, ◌∙◌, ℕ, zero, suc, ◌+◌, ◌-◌, ◌<◌, ◌≤◌, ℤ, pos, ◌+ℤ◌, ◌≤ℤ◌, List, [], ◌∷◌, ◌++◌, length, map, filter, Option, Some, None, option_map, slice_index_or, arith}
 use Rattle.std.proofs.lemmas.Int.{ints, clamps}
 use Rattle.std.specs.Int.{int_max}
 use Rattle.shape_gen.specs.declared.mark.Mark.{Mark}
 use Rattle.shape_gen.specs.Candidates.{mark, sublists}
-use Rattle.gta_job.specs.Answer.{total, greater, greatest, answer}
+use Rattle.gta_job.specs.Answer.{total, passes, greater, greatest, answer}
 
 greater-associative : (a b c : Option ℤ) → greater (greater a b) c ≡ greater a (greater b c)
 greater-associative None b c = refl
@@ -55,9 +55,15 @@ greatest-sublists values first (suc count) =
     ∙ ap (greater (greatest (map (total values) others))) (greatest-with_mark values (mark first 0) others)
     ∙ one_row (slice_index_or values first (pos 0)) (gains values (first + 1) count) (greatest (map (total values) others)) (greatest-sublists values (first + 1) count)
 
-pub answer-gains : (values : List ℤ) → answer values ≡ Some (gains values 0 (length values))
+filter-all : (values : List ℤ) (cs : List (List Mark)) → filter (passes None values) cs ≡ cs
+filter-all values [] = refl
+filter-all values (c ∷ cs) = ap (λ l. c ∷ l) (filter-all values cs)
+
+pub answer-gains : (values : List ℤ) → answer None values ≡ Some (gains values 0 (length values))
 unfolding answer
-answer-gains values = greatest-sublists values 0 (length values)
+answer-gains values =
+    ap (λ cs. greatest (map (total values) cs)) (filter-all values (sublists 0 (length values)))
+    ∙ greatest-sublists values 0 (length values)
 
 -- a loop over the rows that keeps the greatest total so far
 pub gains-last : (values : List ℤ) (row : ℕ) → length values ≤ row → gains values row (length values - row) ≡ pos 0

@@ -2,4 +2,5 @@ pub mod Cases
 pub mod Tables
 pub mod Greatest
 pub mod Heavy
+pub mod Within
 pub mod Forms

@@ -1,12 +1,13 @@
 //! Answers a whole job. What its text is, and which refusal comes in its place, is in specs/Jobs.antt.
 
-ghost use Rattle.std.specs.Prelude.{◌≡◌, ◌≤◌, length, None, IfOk, IfErr, OnOk};
+ghost use Rattle.std.specs.Prelude.{◌≡◌, ◌≤◌, length, None, Some, IfOk, IfErr, OnOk};
 ghost use Rattle.gta_words.specs.declared.words.Command.TheVariants.{Run};
-ghost use Rattle.gta_job.specs.Jobs.{job_refusal, text_of, IsEndOf};
+ghost use Rattle.gta_job.specs.Jobs.{job_refusal, refusal_of_form, text_of, text_of_form, IsEndOf};
 
+use crate::bounded::greatest_within;
 use crate::refusal::{Refusal, report};
-use crate::small_form::small_rows;
-use crate::totals::greatest_total;
+use crate::small_form::{BOUND_LIMIT, ROW_LIMIT, SmallJob, small_job};
+use crate::totals::{first_heavy, first_negative, greatest_total};
 use std::alloc::{AllocError, Global};
 use std::thread::Threads;
 
@@ -47,11 +48,48 @@ pub fn answer_job<R: Threads + Sync>(
     ensures text { IfOk result (λ text. text.items ≡ text_of Run bytes.now) }
     ensures refused { IfErr result (IsEndOf (job_refusal bytes.now)) }
 {
-    let Some(values) = small_rows(alloc, bytes)? else {
+    let Some(job) = small_job(alloc, bytes)? else {
         return Err(JobEnd::Refused(Refusal::Unbuilt));
     };
-    match greatest_total(values.as_slice()) {
-        Ok(total) => Ok(report(alloc, Some(total))?),
-        Err(row) => Err(JobEnd::Refused(Refusal::Heavy { row })),
+    let SmallJob { bound, rows } = job;
+    match bound {
+        Some(bound) => bounded_job(alloc, rows.as_slice(), bound),
+        None => free_job(alloc, rows.as_slice()),
     }
+}
+
+/// The report of a job with a test, or its refusal: a negative value comes before a weight past the bound.
+fn bounded_job(alloc: Global, values: &[i64], bound: u32) -> Result<Vec<u8>, JobEnd>
+    requires few { length values.now ≤ ROW_LIMIT }
+    requires small { bound ≤ BOUND_LIMIT }
+    ensures accepted { OnOk result (refusal_of_form (Some (Some bound, values.now)) ≡ None) }
+    ensures text { IfOk result (λ text. text.items ≡ text_of_form (Some (Some bound, values.now))) }
+    ensures refused { IfErr result (IsEndOf (refusal_of_form (Some (Some bound, values.now)))) }
+{
+    if let Some(row) = first_negative(values) {
+        let value = values[row as usize];
+        return Err(JobEnd::Refused(Refusal::Negative {
+            test: 0,
+            row,
+            value,
+        }));
+    }
+    if let Some(row) = first_heavy(values) {
+        return Err(JobEnd::Refused(Refusal::Heavy { row }));
+    }
+    let total = greatest_within(alloc, values, bound)?;
+    Ok(report(alloc, total)?)
+}
+
+/// The report of a job without a test, or its refusal.
+fn free_job(alloc: Global, values: &[i64]) -> Result<Vec<u8>, JobEnd>
+    requires few { length values.now ≤ ROW_LIMIT }
+    ensures accepted { OnOk result (refusal_of_form (Some (None, values.now)) ≡ None) }
+    ensures text { IfOk result (λ text. text.items ≡ text_of_form (Some (None, values.now))) }
+    ensures refused { IfErr result (IsEndOf (refusal_of_form (Some (None, values.now)))) }
+{
+    if let Some(row) = first_heavy(values) {
+        return Err(JobEnd::Refused(Refusal::Heavy { row }));
+    }
+    Ok(report(alloc, Some(greatest_total(values)))?)
 }

@@ -15,6 +15,8 @@ pub enum Refusal {
     Input,
     /// The job is none that is built so far.
     Unbuilt,
+    /// The test of this number, counted from 0, adds up values, and that of this row is negative.
+    Negative { test: u32, row: u32, value: i64 },
     /// The absolute values of the rows up to this one, which counts from 0, add up past the weight bound.
     Heavy { row: u32 },
 }
@@ -26,6 +28,14 @@ pub fn fault_line(alloc: Global, refusal: &Refusal) -> Result<Vec<u8>, AllocErro
     match *refusal {
         Refusal::Input => Vec::from_slice(alloc, b"refused 45: input past 16777216 bytes\n"),
         Refusal::Unbuilt => Vec::from_slice(alloc, b"refused 1: not built yet\n"),
+        Refusal::Negative { test, row, value } => {
+            let number = u64::from(test) + 1;
+            let place = u64::from(row) + 1;
+            let text = format!(in alloc;
+                "refused 40: test {number}, row {place}: value {value} is negative\n"
+            )?;
+            Ok(text.into_bytes())
+        }
         Refusal::Heavy { row } => {
             let place = u64::from(row) + 1;
             let text = format!(in alloc;

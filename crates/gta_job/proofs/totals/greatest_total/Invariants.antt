@@ -1,15 +1,11 @@
-use Rattle.std.proofs.Common.{◌≡◌, ℕ, ◌+◌, ◌-◌, ◌<◌, ◌≤◌, ℤ, pos, ◌+ℤ◌, ◌≤ℤ◌, length}
-use Rattle.gta_job.specs.declared.totals.TheConstants.{WEIGHT_BOUND}
+use Rattle.std.proofs.Common.{◌≡◌, ◌-◌, pos, ◌+ℤ◌, ◌≤ℤ◌, length}
 use Rattle.gta_job.specs.Answer.{weight_of_rows}
 use Rattle.gta_job.proofs.Greatest.{gains}
 use Rattle.gta_job.proofs.totals.greatest_total.Given as goal
 
-abbrev pub invariant-loop-row : goal.invariant-loop-row
-invariant-loop-row l = record {
-  weight : l.weight ≡ weight_of_rows l.values l.row;
-  light : (k : ℕ) → k < l.row → weight_of_rows l.values (k + 1) ≤ WEIGHT_BOUND;
-  within : l.weight ≤ WEIGHT_BOUND;
+abbrev pub invariant-loop-value : goal.invariant-loop-value
+invariant-loop-value l = record {
   low : pos 0 ≤ℤ l.best;
-  high : l.best ≤ℤ pos l.weight;
-  rest : l.best +ℤ gains l.values l.row (length l.values - l.row) ≡ gains l.values 0 (length l.values);
+  high : l.best ≤ℤ pos (weight_of_rows l.values l.value-index);
+  rest : l.best +ℤ gains l.values l.value-index (length l.values - l.value-index) ≡ gains l.values 0 (length l.values);
 }
