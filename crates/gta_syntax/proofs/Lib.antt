@@ -5,3 +5,4 @@ pub mod Again
 pub mod Complete
 pub mod PartLoops
 pub mod Readings
+pub mod Fronts
