@@ -140,12 +140,12 @@ three_splits a b c rest = (chain (one a) (chain (one b) (one c))).splits rest
 
 pub table_splits : (x u : List ℕ) (es : List (List ℕ)) → line_text (kind_front (Table (record { name = x; unit = u; elements = es })) [])
     ≡ (codes "table" ++ line_text (spaced (Word x) ∷ spaced (Word (codes "unit")) ∷ spaced (Word u) ∷ []))
-      ++ line_text (spaced (Word (codes "elements")) ∷ names_front es [])
+    ++ line_text (spaced (Word (codes "elements")) ∷ names_front es [])
 table_splits x u es = (chain (one (glued (Word (codes "table")))) (chain (one (spaced (Word x))) (chain (one (spaced (Word (codes "unit")))) (one (spaced (Word u)))))).splits (spaced (Word (codes "elements")) ∷ names_front es [])
 
 pub fold_splits : (x : List ℕ) (ps : List PickTree) (es : List (List ℕ)) → line_text (test_front (Fold x ps es) [])
     ≡ (line_text (spaced (Word (codes "fold")) ∷ spaced (Word x) ∷ spaced (Word (codes "by")) ∷ []) ++ line_text (picks_front ps []))
-      ++ line_text (spaced (Word (codes "accept")) ∷ names_front es [])
+    ++ line_text (spaced (Word (codes "accept")) ∷ names_front es [])
 fold_splits x ps es =
     let listed = spaced (Word (codes "accept")) ∷ names_front es [] in
     (chain (one (spaced (Word (codes "fold")))) (chain (one (spaced (Word x))) (chain (one (spaced (Word (codes "by")))) (picks_is_front ps)))).splits listed

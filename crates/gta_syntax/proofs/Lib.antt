@@ -6,3 +6,5 @@ pub mod Complete
 pub mod PartLoops
 pub mod Readings
 pub mod Fronts
+pub mod Fits
+pub mod WellRead

@@ -1,6 +1,6 @@
 -- The specifications that the grammar can give.
-use Rattle.std.specs.Prelude.{◌≡◌, ℕ, ◌+◌, ◌<◌, ◌≤◌, true, List, [], ◌∷◌, length, ℤ, nat_abs, Option, Some, None, IfSome}
-use Rattle.std.specs.List.{list_all, AllByRecursion}
+use Rattle.std.specs.Prelude.{◌≡◌, ℕ, ◌+◌, ◌<◌, ◌≤◌, true, List, [], ◌∷◌, length, ℤ, nat_abs, Option, Some, None}
+use Rattle.std.specs.List.{list_all}
 use Rattle.gta_text.specs.declared.numbers.TheConstants.{NUMBER_BOUND}
 use Rattle.gta_text.specs.Names.{is_name_text}
 use Rattle.gta_text.specs.Tokens.{is_text_byte}
@@ -27,12 +27,21 @@ FitsDigits n = n ≤ NUMBER_BOUND
 abbrev pub FitsNum : ℤ → Type 0
 FitsNum z = nat_abs z ≤ NUMBER_BOUND
 
+abbrev pub EachFits : {A : Type 0} → (A → Type 0) → List A → Type 0
+EachFits Fits [] = Unit {0}
+EachFits Fits (x ∷ xs) = Fits x × EachFits Fits xs
+
 -- one or more, each of which fits
 abbrev pub SomeFit : {A : Type 0} → (A → Type 0) → List A → Type 0
-SomeFit Fits xs = (0 < length xs) × AllByRecursion Fits xs
+SomeFit Fits xs = (0 < length xs) × EachFits Fits xs
+
+-- a header, where one is written
+abbrev pub FitsHeaderIf : Option (List ℕ) → Type 0
+FitsHeaderIf None = Unit {0}
+FitsHeaderIf (Some text) = FitsHeader text
 
 abbrev pub FitsItem : ColumnItem → Type 0
-FitsItem item = FitsName item.name × IfSome item.header FitsHeader
+FitsItem item = FitsName item.name × FitsHeaderIf item.header
 
 abbrev pub FitsAtom : AtomPart → Type 0
 FitsAtom (Label x) = FitsName x
@@ -49,10 +58,10 @@ abbrev pub FitsTerm : TermPart → Type 0
 FitsTerm term = FitsQuantity term.number term.name
 
 abbrev pub FitsCase : CaseTree → Type 0
-FitsCase case = SomeFit FitsTerm case.form × AllByRecursion FitsAtom case.cond
+FitsCase case = SomeFit FitsTerm case.form × EachFits FitsAtom case.cond
 
 abbrev pub FitsPick : PickTree → Type 0
-FitsPick pick = FitsName pick.element × AllByRecursion FitsAtom pick.cond
+FitsPick pick = FitsName pick.element × EachFits FitsAtom pick.cond
 
 abbrev pub FitsCheck : Check → Type 0
 FitsCheck (Compare c z) = FitsNum z

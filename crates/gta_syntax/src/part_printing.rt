@@ -9,13 +9,20 @@ ghost use Rattle.gta_syntax.specs.Canonical.{pick_front, next_pick_front, picks_
 ghost use Rattle.gta_syntax.specs.Canonical.{shape_word, end_word, goal_front, kind_front, part_text};
 
 use crate::parts::{CasePart, Check, GoalPart, Part, PartKind, PickPart, TermPart, TestPart};
-use crate::printing::{put_cmp, put_digits, put_if, put_items, put_name, put_names, put_num, put_number, put_spaced};
+use crate::printing::{
+    put_cmp, put_digits, put_if, put_items, put_name, put_names, put_num, put_number, put_spaced,
+};
 use gta_text::Name;
 use shape_gen::Shape;
 use std::alloc::{AllocError, Global};
 
 /// A number, a name or their product, behind a space or not.
-fn put_quantity(alloc: Global, out: &mut Vec<u8>, glued: bool, term: &TermPart) -> Result<(), AllocError>
+fn put_quantity(
+    alloc: Global,
+    out: &mut Vec<u8>,
+    glued: bool,
+    term: &TermPart,
+) -> Result<(), AllocError>
     ensures { OnOk result (out.new.items ≡ out.old.items ++ line_text (quantity_front glued term.now.number term.now.name [])) }
 {
     match (&term.number, &term.name) {
@@ -40,7 +47,12 @@ fn put_behind(out: &mut Vec<u8>, glued: bool, text: &[u8]) -> Result<(), AllocEr
     }
 }
 
-fn put_number_behind(alloc: Global, out: &mut Vec<u8>, glued: bool, number: u64) -> Result<(), AllocError>
+fn put_number_behind(
+    alloc: Global,
+    out: &mut Vec<u8>,
+    glued: bool,
+    number: u64,
+) -> Result<(), AllocError>
     ensures { OnOk result (out.new.items ≡ out.old.items ++ ((if glued then [] else 32 ∷ []) ++ decimal number)) }
 {
     if glued {
