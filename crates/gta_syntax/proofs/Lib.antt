@@ -8,3 +8,6 @@ pub mod Readings
 pub mod Fronts
 pub mod Fits
 pub mod WellRead
+pub mod Lexed
+pub mod Spelled
+pub mod ReadBack

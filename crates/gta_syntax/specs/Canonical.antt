@@ -1,5 +1,5 @@
 -- The canonical text of a specification: its symbols with one space between them, but none where one is glued to the one before.
-use Rattle.std.specs.Prelude.{ℕ, suc, Bool, true, false, List, [], ◌∷◌, ◌++◌, flat_map, ℤ, pos, negsuc, Option, Some, None, codes, if◌then◌else◌, decimal}
+use Rattle.std.specs.Prelude.{ℕ, suc, ◌+◌, Bool, true, false, List, [], ◌∷◌, ◌++◌, flat_map, ℤ, pos, negsuc, Option, Some, None, codes, if◌then◌else◌, decimal}
 use Rattle.shape_gen.specs.declared.shape.Shape.{Shape}
 use Rattle.shape_gen.specs.declared.shape.Shape.TheVariants as shapes
 use Rattle.gta_syntax.specs.declared.parts.ColumnItem.{ColumnItem}
@@ -172,3 +172,12 @@ part_text part = line_text (kind_front part.kind []) ++ 10 ∷ []
 -- `gta 1`, each part on a line, and `rows`
 abbrev pub canonical : SpecTree → List ℕ
 canonical spec = codes "gta 1" ++ 10 ∷ (flat_map part_text spec.parts ++ (codes "rows" ++ 10 ∷ []))
+
+-- the same parts, on the lines from this number on
+abbrev pub renumbered : ℕ → List PartTree → List PartTree
+renumbered line [] = []
+renumbered line (part ∷ parts) = record { line = line; kind = part.kind } ∷ renumbered (line + 1) parts
+
+-- the specification as its canonical text says it: the first part on line 2
+abbrev pub shown_as : SpecTree → SpecTree
+shown_as spec = record { version = spec.version; parts = renumbered 2 spec.parts }
