@@ -1,8 +1,7 @@
 -- What a line of well spelled symbols says is well formed: a lemma for each rule, with a line for each alternative.
-use Rattle.std.proofs.Common.{◌≡◌, ℕ, zero, suc, ◌+◌, ◌≤◌, ◌<◌, Bool, true, false, List, [], ◌∷◌, length, refl, sym, ap, subst, ◌∙◌, arith}
-use Rattle.std.specs.Prelude.{ℤ, pos, negsuc, neg_ℤ, nat_abs, Option, Some, None, codes}
+use Rattle.std.proofs.Common.{◌≡◌, ℕ, zero, suc, ◌≤◌, Bool, true, List, [], ◌∷◌, refl, subst, arith}
+use Rattle.std.specs.Prelude.{ℤ, pos, neg_ℤ, nat_abs}
 use Rattle.std.specs.List.{list_all}
-use Rattle.shape_gen.specs.declared.shape.Shape.{Shape}
 use Rattle.gta_text.specs.declared.numbers.TheConstants.{NUMBER_BOUND}
 use Rattle.gta_text.specs.Tokens.{is_text_byte}
 use Rattle.gta_syntax.specs.declared.parts.ColumnItem.{ColumnItem}
@@ -13,8 +12,8 @@ use Rattle.gta_syntax.specs.declared.parts.Cmp.{Cmp}
 use Rattle.gta_syntax.specs.declared.parts.GoalPart.{GoalPart}
 use Rattle.gta_syntax.specs.Symbols.{Symbol, Word, Digits, Text, Sign, Stray}
 use Rattle.gta_syntax.specs.Parts.{CaseTree, PickTree, TestTree, KindTree}
-use Rattle.gta_syntax.specs.Grammar.{IsWord, IsSign, IsDigits, IsText, IsName, IsNames, IsNum, IsItem, IsCmp, IsAtom, IsAnd, IsCond, IsIf, IsTerm, IsFirstTerm, IsNextTerm, IsForm, IsCase, IsNextCase, IsCases, IsPick, IsNextPick, IsPicks, IsCheck, IsTest, IsShape, IsEnd, IsGoal, IsLine, IsPart, Many, none, some, Listed, listed, Behind, behind}
-use Rattle.gta_syntax.specs.WellFormed.{FitsName, FitsDigits, FitsNum, EachFits, SomeFit, FitsItem, FitsAtom, FitsTerm, FitsCase, FitsPick, FitsCheck, FitsTest, FitsGoal, FitsKind}
+use Rattle.gta_syntax.specs.Grammar.{IsDigits, IsText, IsName, IsNames, IsNum, IsItem, IsCmp, IsAtom, IsAnd, IsIf, IsTerm, IsFirstTerm, IsNextTerm, IsCase, IsNextCase, IsPick, IsNextPick, IsCheck, IsTest, IsEnd, IsGoal, IsLine, Many, none, some, Listed, listed, behind}
+use Rattle.gta_syntax.specs.WellFormed.{FitsName, FitsNum, EachFits, SomeFit, FitsItem, FitsAtom, FitsTerm, FitsCase, FitsPick, FitsCheck, FitsTest, FitsGoal, FitsKind}
 
 abbrev pub GoodSymbol : Symbol → Type 0
 GoodSymbol (Word x) = Unit {0}

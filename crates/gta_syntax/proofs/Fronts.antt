@@ -1,5 +1,5 @@
 -- The text of pieces in front of others is their own text, and then that of the others.
-use Rattle.std.proofs.Common.{◌≡◌, ℕ, suc, ◌+◌, ◌<◌, ◌≤◌, Bool, true, false, List, [], ◌∷◌, ◌++◌, length, drop, get_or, refl, sym, ap, ◌∙◌, append_assoc, arith}
+use Rattle.std.proofs.Common.{◌≡◌, ℕ, suc, Bool, true, false, List, [], ◌∷◌, ◌++◌, refl, sym, ap, ◌∙◌, append_assoc}
 use Rattle.std.proofs.lemmas.List.{append-nil}
 use Rattle.std.specs.Prelude.{ℤ, pos, negsuc, Option, Some, None, codes, decimal, Result, Ok, Err, OnOk}
 use Rattle.std.specs.Fmt.{signed_decimal}
@@ -7,12 +7,9 @@ use Rattle.gta_syntax.specs.declared.parts.ColumnItem.{ColumnItem}
 use Rattle.gta_syntax.specs.declared.parts.TermPart.{TermPart}
 use Rattle.gta_syntax.specs.declared.parts.AtomPart.{AtomPart}
 use Rattle.gta_syntax.specs.declared.parts.AtomPart.TheVariants.{Label, Column}
-use Rattle.gta_syntax.specs.declared.parts.Check.{Check}
-use Rattle.gta_syntax.specs.declared.parts.Check.TheVariants.{Compare, Mod}
-use Rattle.gta_syntax.specs.Parts.{CaseTree, PickTree, TestTree, Fold, KindTree, Table}
-use Rattle.gta_syntax.specs.Symbols.{Symbol, Word, Digits, Text, Sign, Stray}
-use Rattle.gta_syntax.specs.Canonical.{Piece, spaced, glued, piece_text, line_text, fronts, name_front, names_front, num_front, header_front, item_front, atom_front, and_front, if_front, quantity_front, first_sign_front, first_term_front, next_term_front, form_front, case_front, next_case_front, cases_front, pick_front, next_pick_front, picks_front, check_front, test_front, kind_front}
-use Rattle.gta_syntax.proofs.PartLoops.{drop_at}
+use Rattle.gta_syntax.specs.Parts.{CaseTree, PickTree, Fold, Table}
+use Rattle.gta_syntax.specs.Symbols.{Word}
+use Rattle.gta_syntax.specs.Canonical.{Piece, spaced, glued, piece_text, line_text, fronts, name_front, names_front, num_front, header_front, item_front, atom_front, and_front, if_front, quantity_front, first_sign_front, first_term_front, next_term_front, form_front, case_front, next_case_front, cases_front, pick_front, next_pick_front, picks_front, test_front, kind_front}
 
 -- pieces in front of a rest
 pub record IsFront (front : List Piece → List Piece) : Type 0 where

@@ -1,20 +1,20 @@
 -- The tokens of the text of pieces are their symbols.
-use Rattle.std.proofs.Common.{◌≡◌, ℕ, zero, suc, ◌+◌, ◌-◌, ◌≤◌, ◌<◌, ◌^◌, Bool, true, false, cond, not, ◌&&◌, ◌||◌, List, [], ◌∷◌, ◌++◌, length, take, drop, map, refl, sym, ap, subst, ◌∙◌, arith, append_assoc, one-add, length-append}
+use Rattle.std.proofs.Common.{◌≡◌, ℕ, suc, ◌+◌, ◌-◌, ◌≤◌, ◌<◌, ◌^◌, Bool, true, false, cond, ◌&&◌, List, [], ◌∷◌, ◌++◌, length, map, refl, ap, ◌∙◌, arith, append_assoc, one-add, length-append}
 use Rattle.std.proofs.lemmas.Bool.Decides.{nat_tests}
 use Rattle.std.proofs.Math.Seq.{take-append_seam, drop-append_seam}
 use Rattle.std.proofs.lemmas.Fmt.{digits_decimal, digits_value-decimal, decimal_nonempty}
 use Rattle.std.proofs.lemmas.Str.Parse.{IsNumeralModel, numerals_by_value}
-use Rattle.std.specs.Prelude.{Option, Some, None, unwrap_or, nat_eq, nat_lt, nat_le, ◌==◌, codes, decimal, flat_map}
+use Rattle.std.specs.Prelude.{unwrap_or, nat_eq, nat_lt, nat_le, codes, decimal}
 use Rattle.std.specs.List.{list_all, prefix_len}
 use Rattle.std.specs.Str.Parse.{digits_value}
 use Rattle.gta_text.specs.declared.token.TokenKind.{TokenKind}
 use Rattle.gta_text.specs.declared.token.TokenKind.TheVariants as kinds
 use Rattle.gta_text.specs.declared.numbers.TheConstants.{NUMBER_BOUND}
-use Rattle.gta_text.specs.Numbers.{is_digit, is_number, digits_number}
+use Rattle.gta_text.specs.Numbers.{is_digit, digits_number}
 use Rattle.gta_text.specs.Names.{is_letter, is_word_byte, is_word}
-use Rattle.gta_text.specs.Tokens.{is_blank, is_text_byte, is_sign, may_begin_sign, next_is, quoted_at, token_at}
+use Rattle.gta_text.specs.Tokens.{is_blank, is_text_byte, token_at}
 use Rattle.gta_text.proofs.Slices.{spelled_from}
-use Rattle.gta_syntax.specs.Symbols.{Symbol, Word, Digits, Text, Sign, Stray, unquoted, symbol_as}
+use Rattle.gta_syntax.specs.Symbols.{Symbol, Word, Digits, Text, Sign, Stray, unquoted}
 use Rattle.gta_syntax.specs.Canonical.{Piece, symbol_text, piece_text, line_text}
 use Rattle.gta_syntax.proofs.WellRead.{as_symbol}
 use Rattle.std.proofs.Common.{rules}
@@ -129,7 +129,7 @@ lex_word [] t word none = absurd cc
 lex_word (b ∷ bs) t word none =
     let letter = and_left (is_letter b) (list_all is_word_byte bs) word in
     ap (λ ps. map as_symbol ps) (token_step b bs t kinds.Word (letter_not_blank b letter) (letter_no_comment b letter)
-      (word_token b bs t letter (and_right (is_letter b) (list_all is_word_byte bs) word) none))
+    (word_token b bs t letter (and_right (is_letter b) (list_all is_word_byte bs) word) none))
 
 own : IsNumeralModel (λ ds. list_all is_digit ds ≡ true) (digits_value 10)
 own = numerals_by_value _ (search rules)
@@ -151,7 +151,7 @@ lex_digits_of [] t some all none = absurd (omega arith)
 lex_digits_of (b ∷ bs) t some all none =
     let digit = and_left (is_digit b) (list_all is_digit bs) all in
     ap (λ ps. map as_symbol ps) (token_step b bs t kinds.Digits (digit_not_blank b digit) (digit_no_comment b digit)
-      (digits_token b bs t digit (and_right (is_digit b) (list_all is_digit bs) all) none))
+    (digits_token b bs t digit (and_right (is_digit b) (list_all is_digit bs) all) none))
 
 lex_digits : (n : ℕ) (t : List ℕ) → n ≤ NUMBER_BOUND → prefix_len is_digit t ≡ 0 → Lexes (Digits n) t
 lex_digits n t le none =

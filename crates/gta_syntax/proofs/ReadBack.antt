@@ -1,20 +1,15 @@
 -- The canonical text of a well formed specification is that specification, its parts on the lines from the second on.
-use Rattle.std.proofs.Common.{◌≡◌, ℕ, zero, suc, ◌+◌, ◌-◌, ◌≤◌, ◌<◌, Bool, true, false, cond, not, ◌&&◌, ◌||◌, List, [], ◌∷◌, ◌++◌, length, take, drop, map, get_or, refl, sym, ap, subst, ◌∙◌, arith, append_assoc, one-add, length-append}
+use Rattle.std.proofs.Common.{◌≡◌, ℕ, zero, suc, ◌+◌, ◌-◌, ◌<◌, Bool, true, false, not, ◌&&◌, ◌||◌, List, [], ◌∷◌, ◌++◌, length, get_or, refl, ap, ◌∙◌, arith, append_assoc, one-add, length-append}
 use Rattle.std.proofs.lemmas.Bool.Decides.{nat_tests}
-use Rattle.std.proofs.lemmas.Grind.{common_steps}
-use Rattle.std.proofs.lemmas.List.{append-nil}
 use Rattle.std.proofs.Math.Seq.{take-append_seam}
-use Rattle.std.proofs.lemmas.List.Sums.{prefix_len_passes}
-use Rattle.std.specs.Prelude.{Option, Some, None, Result, Ok, Err, IfOk, nat_eq, nat_lt, nat_le, ◌==◌, codes, flat_map, slice_index}
-use Rattle.std.specs.List.{list_all, list_any, prefix_len, onto_first}
+use Rattle.std.specs.Prelude.{Some, None, Result, Ok, Err, IfOk, nat_lt, ◌==◌, codes, flat_map, slice_index}
+use Rattle.std.specs.List.{list_all, list_any, prefix_len}
 use Rattle.std.specs.Str.{bytes_eq}
 use Rattle.gta_text.specs.declared.token.TokenKind.{TokenKind}
 use Rattle.gta_text.specs.declared.token.TokenKind.TheVariants as kinds
 use Rattle.gta_text.specs.declared.token.Token.{Token}
-use Rattle.gta_text.specs.declared.numbers.TheConstants.{NUMBER_BOUND}
 use Rattle.gta_text.specs.Tokens.{tokens_from, token_at}
-use Rattle.gta_text.specs.Text.{raw_lines, without_last, content, is_plain, first_bad, is_rows, Numbered, Found, BadByte, line_if, with_lines, unless_bad, lines_from, mark_length, read_lines}
-use Rattle.gta_text.proofs.Slices.{spelled_from, with_text, slices}
+use Rattle.gta_text.specs.Text.{raw_lines, without_last, content, is_plain, first_bad, is_rows, Numbered, Found, BadByte, line_if, with_lines, lines_from, read_lines}
 use Rattle.gta_syntax.specs.Symbols.{Symbol, Word, Digits, Text, Sign, Stray, symbol_of, symbols}
 use Rattle.gta_syntax.specs.Parts.{KindTree, Columns, Labels, Measure, Table, Times, Generate, Test, Aggregate, PartTree, SpecTree}
 use Rattle.gta_syntax.specs.Grammar.{IsPart}
@@ -83,7 +78,7 @@ no_return [] all = refl
 no_return (x ∷ xs) all =
     let k : length (x ∷ xs) - 1 ≡ length xs = omega arith in
     let last : (slice_index (x ∷ xs) (length xs) == 13) ≡ false =
-        rw (index_as (x ∷ xs) (length xs) (omega arith)) (print_no_return (get_or (x ∷ xs) (length xs) 32) (print_at (x ∷ xs) (length xs) all)) in
+    rw (index_as (x ∷ xs) (length xs) (omega arith)) (print_no_return (get_or (x ∷ xs) (length xs) 32) (print_at (x ∷ xs) (length xs) all)) in
     let some : nat_lt 0 (length (x ∷ xs)) ≡ true = grind (arith, nat_tests) in
     rw (some, k, last) refl
 
@@ -173,7 +168,7 @@ line_length held = length-append held (10 ∷ [])
 pub at_line : (source : List ℕ) (number place : ℕ) (ps : List Piece) (back : List ℕ) → AreWritable ps → Placed source place (line_text ps) back
     → rows_symbols (syms ps) ≡ false
     → lines_from source number place (raw_lines (line_text ps ++ 10 ∷ back))
-      ≡ with_lines (line_if number (tokens_from 0 place (line_text ps))) (lines_from source (number + 1) (place + (length (line_text ps) + 1)) (raw_lines back))
+    ≡ with_lines (line_if number (tokens_from 0 place (line_text ps))) (lines_from source (number + 1) (place + (length (line_text ps) + 1)) (raw_lines back))
 unfolding lines_from
 at_line source number place ps back w placed other =
     let held = line_text ps in
@@ -202,9 +197,9 @@ unfolding lines_from
 at_rows source number place front whole at =
     let placed : Placed source place (codes "rows") [] = record { front = front; whole = whole; at = at } in
     let same : symbols source (tokens_from 0 place (codes "rows")) ≡ Word (codes "rows") ∷ [] =
-        line_symbols source place (glued (Word (codes "rows")) ∷ []) [] (refl, tt, tt) placed in
+    line_symbols source place (glued (Word (codes "rows")) ∷ []) [] (refl, tt, tt) placed in
     let rows : is_rows source (tokens_from 0 place (codes "rows")) ≡ true =
-        rows_by_symbols source (tokens_from 0 place (codes "rows")) ∙ ap (λ ts. rows_symbols ts) same in
+    rows_by_symbols source (tokens_from 0 place (codes "rows")) ∙ ap (λ ts. rows_symbols ts) same in
     let end : place + 5 ≡ length source = omega (arith, at, ap length whole, length-append front rows_text) in
     rw (raw_line (codes "rows") [] refl, content_back (codes "rows") refl, rows) (ap (λ n. Ok (record { lines = []; rows_at = Some n })) end)
 
@@ -250,13 +245,13 @@ parts_back (part ∷ parts) source front number place low fit whole at =
     let held = line_text pieces in
     let writable = kind_writable part.kind fit.1 in
     let placed : Placed source place held (parts_text parts) =
-        record { front = front; whole = whole ∙ ap (λ (ts : List ℕ). front ++ ts) (text_splits part parts); at = at } in
+    record { front = front; whole = whole ∙ ap (λ (ts : List ℕ). front ++ ts) (text_splits part parts); at = at } in
     let later = parts_back parts source (front ++ (held ++ 10 ∷ [])) (number + 1) (place + (length held + 1)) (part.line + 1) fit.2
-        (placed.whole ∙ rest_of front held (parts_text parts)) (omega (arith, at, length-append front (held ++ 10 ∷ []), length-append held (10 ∷ []))) in
+    (placed.whole ∙ rest_of front held (parts_text parts)) (omega (arith, at, length-append front (held ++ 10 ∷ []), length-append held (10 ∷ []))) in
     let read : lines_from source number place (raw_lines (parts_text (part ∷ parts)))
-          ≡ with_lines (line_if number (tokens_from 0 place held)) (lines_from source (number + 1) (place + (length held + 1)) (raw_lines (parts_text parts))) =
-        ap (λ (ts : List ℕ). lines_from source number place (raw_lines ts)) (text_splits part parts)
-        ∙ at_line source number place pieces (parts_text parts) writable placed (kind_no_rows part.kind) in
+    ≡ with_lines (line_if number (tokens_from 0 place held)) (lines_from source (number + 1) (place + (length held + 1)) (raw_lines (parts_text parts))) =
+    ap (λ (ts : List ℕ). lines_from source number place (raw_lines ts)) (text_splits part parts)
+    ∙ at_line source number place pieces (parts_text parts) writable placed (kind_no_rows part.kind) in
     let more = one_more source number part parts (tokens_from 0 place held) _ fit.1 (line_symbols source place pieces (parts_text parts) writable placed) later in
     record { lines = more.lines; is = read ∙ more.is; said = more.said; numbers = more.numbers }
   where
@@ -279,7 +274,7 @@ version_again back = refl
 
 first_line : (source back : List ℕ)
     → lines_from source 1 0 (raw_lines (codes "gta 1" ++ 10 ∷ back))
-      ≡ with_lines (line_if 1 (tokens_from 0 0 (codes "gta 1"))) (lines_from source 2 6 (raw_lines back))
+    ≡ with_lines (line_if 1 (tokens_from 0 0 (codes "gta 1"))) (lines_from source 2 6 (raw_lines back))
 unfolding lines_from
 first_line source back =
     rw (raw_line (codes "gta 1") back refl, content_back (codes "gta 1") refl, version_no_rows source) refl

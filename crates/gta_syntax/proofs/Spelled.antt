@@ -1,9 +1,9 @@
 -- The canonical pieces of what is well formed are in the grammar, and can be written: two lemmas for each rule.
-use Rattle.std.proofs.Common.{◌≡◌, ℕ, suc, ◌+◌, ◌≤◌, ◌<◌, Bool, true, false, not, ◌&&◌, List, [], ◌∷◌, length, map, refl, arith}
+use Rattle.std.proofs.Common.{◌≡◌, ℕ, suc, Bool, true, false, not, ◌&&◌, List, [], ◌∷◌, map, refl, arith}
 use Rattle.std.specs.Prelude.{ℤ, pos, negsuc, Option, Some, None, codes}
 use Rattle.shape_gen.specs.declared.shape.Shape.{Shape}
 use Rattle.shape_gen.specs.declared.shape.Shape.TheVariants as shapes
-use Rattle.gta_text.specs.Names.{is_word, is_reserved, is_name_text}
+use Rattle.gta_text.specs.Names.{is_word, is_reserved}
 use Rattle.gta_syntax.specs.declared.parts.ColumnItem.{ColumnItem}
 use Rattle.gta_syntax.specs.declared.parts.TermPart.{TermPart}
 use Rattle.gta_syntax.specs.declared.parts.AtomPart.{AtomPart}
@@ -15,11 +15,11 @@ use Rattle.gta_syntax.specs.declared.parts.Check.TheVariants.{Compare, Mod}
 use Rattle.gta_syntax.specs.declared.parts.GoalPart.{GoalPart}
 use Rattle.gta_syntax.specs.declared.parts.GoalPart.TheVariants.{Count, Any, Max, Min, Best}
 use Rattle.gta_syntax.specs.Parts.{CaseTree, PickTree, TestTree, Sum, Length, Fold, KindTree, Columns, Labels, Measure, Table, Times, Generate, Test, Aggregate}
-use Rattle.gta_syntax.specs.Symbols.{Symbol, Word, Digits, Text, Sign, Stray}
-use Rattle.gta_syntax.specs.Grammar.{IsWord, IsSign, IsDigits, IsText, IsName, IsNames, IsNum, IsItem, IsCmp, IsAtom, IsAnd, IsCond, IsIf, IsTerm, IsFirstTerm, IsNextTerm, IsForm, IsCase, IsNextCase, IsCases, IsPick, IsNextPick, IsPicks, IsCheck, IsTest, IsShape, IsEnd, IsGoal, IsLine, IsPart, Many, none, some, Listed, listed, Behind, behind}
+use Rattle.gta_syntax.specs.Symbols.{Symbol, Word, Digits, Sign}
+use Rattle.gta_syntax.specs.Grammar.{IsName, IsNames, IsNum, IsItem, IsCmp, IsAtom, IsAnd, IsIf, IsTerm, IsFirstTerm, IsNextTerm, IsForm, IsCase, IsNextCase, IsCases, IsPick, IsNextPick, IsPicks, IsCheck, IsTest, IsShape, IsEnd, IsGoal, IsLine, IsPart, Many, none, some, Listed, listed, behind}
 use Rattle.gta_syntax.specs.WellFormed.{FitsName, FitsDigits, FitsNum, FitsHeaderIf, EachFits, SomeFit, FitsItem, FitsAtom, FitsQuantity, FitsTerm, FitsCase, FitsPick, FitsCheck, FitsTest, FitsGoal, FitsKind}
 use Rattle.gta_syntax.specs.Canonical.{Piece, spaced, glued, fronts, name_front, names_front, num_front, item_front, cmp_text, atom_front, and_front, if_front, quantity_front, first_term_front, next_term_front, form_front, case_front, next_case_front, cases_front, pick_front, next_pick_front, picks_front, check_front, test_front, shape_word, end_word, goal_front, kind_front}
-use Rattle.gta_syntax.proofs.Lexed.{IsSignText, Writable, Closed, AreWritable}
+use Rattle.gta_syntax.proofs.Lexed.{IsSignText, Closed, AreWritable}
 
 abbrev pub syms : List Piece → List Symbol
 syms ps = map (λ p. p.symbol) ps
@@ -328,10 +328,10 @@ kind_writable (Measure part) fits =
     at_start (codes "measure") _ refl (a_name part.name _ fits.0 (a_sign (codes "=") _ IsSignText.equal (cases_flow part.cases [] fits.1 nothing).writable))
 kind_writable (Table part) fits =
     at_start (codes "table") _ refl (a_name part.name _ fits.0 (a_word (codes "unit") _ refl (a_name part.unit _ fits.1
-      (a_word (codes "elements") _ refl (names_flow part.elements [] fits.2 nothing)))))
+    (a_word (codes "elements") _ refl (names_flow part.elements [] fits.2 nothing)))))
 kind_writable (Times part) fits =
     at_start (codes "times") _ refl (a_name part.table _ fits.0 (a_name part.element _ fits.1 (a_sign (codes "=") _ IsSignText.equal
-      (names_flow part.products [] fits.2 nothing).writable)))
+    (names_flow part.products [] fits.2 nothing).writable)))
 kind_writable (Generate s) fits = at_start (codes "generate") _ refl (a_word (shape_word s) [] (shape_is_word s) nothing)
 kind_writable (Test t) fits = at_start (codes "test") _ refl (test_flows t fits)
 kind_writable (Aggregate g) fits = at_start (codes "aggregate") _ refl (goal_flows g fits)

@@ -1,24 +1,23 @@
 -- A specification that a text is, is well formed.
-use Rattle.std.proofs.Common.{◌≡◌, ℕ, zero, suc, ◌+◌, ◌-◌, ◌≤◌, ◌<◌, Bool, true, false, cond, ◌&&◌, ◌||◌, List, [], ◌∷◌, ◌++◌, length, take, drop, map, refl, sym, ap, subst, ◌∙◌, arith, one-add, length-drop}
+use Rattle.std.proofs.Common.{◌≡◌, ℕ, zero, suc, ◌+◌, ◌-◌, ◌≤◌, Bool, true, false, cond, ◌&&◌, ◌||◌, List, [], ◌∷◌, ◌++◌, length, take, drop, map, refl, sym, ap, subst, ◌∙◌, arith, one-add, length-drop}
 use Rattle.std.proofs.lemmas.Bool.Decides.{nat_tests}
 use Rattle.std.proofs.lemmas.List.{take-take, length-take}
-use Rattle.std.specs.Prelude.{Option, Some, None, Result, Ok, Err, nat_eq, ◌==◌, nat_lt}
+use Rattle.std.specs.Prelude.{Result, nat_eq, ◌==◌, nat_lt}
 use Rattle.std.specs.List.{list_all, list_any, prefix_len}
 use Rattle.gta_text.specs.declared.token.TokenKind.{TokenKind}
-use Rattle.gta_text.specs.declared.token.TokenKind.TheVariants as kinds
 use Rattle.gta_text.specs.declared.token.Token.{Token}
 use Rattle.gta_text.specs.declared.numbers.TheConstants.{NUMBER_BOUND}
 use Rattle.gta_text.specs.Numbers.{is_digit}
-use Rattle.gta_text.specs.Names.{is_letter, is_word_byte}
+use Rattle.gta_text.specs.Names.{is_letter}
 use Rattle.gta_text.specs.Tokens.{is_blank, is_text_byte, is_sign, may_begin_sign, next_is, quoted_at, token_at, tokens_from}
-use Rattle.gta_text.specs.Text.{Numbered, Found, BadByte, read_lines}
-use Rattle.gta_text.proofs.Slices.{pick, both_right, next_there, spelled_from, with_text, slices}
-use Rattle.gta_text.proofs.FoundLines.{IsHeld, AreHeld, HeldIn, text_held}
+use Rattle.gta_text.specs.Text.{Numbered, Found, BadByte}
+use Rattle.gta_text.proofs.Slices.{pick, next_there, spelled_from, with_text, slices}
+use Rattle.gta_text.specs.Text.{IsHeld, AreHeld}
+use Rattle.gta_text.proofs.FoundLines.{HeldIn, text_held}
 use Rattle.gta_syntax.specs.Symbols.{Symbol, Word, Digits, Text, Sign, Stray, unquoted, symbol_as, symbol_of, symbols}
-use Rattle.gta_syntax.specs.Parts.{KindTree, PartTree, SpecTree}
-use Rattle.gta_syntax.specs.Grammar.{IsPart}
+use Rattle.gta_syntax.specs.Parts.{PartTree, SpecTree}
 use Rattle.gta_syntax.specs.SpecText.{is_past, has_past, AreParts, none, some, SpecText}
-use Rattle.gta_syntax.specs.WellFormed.{FitsKind, FitParts, IsWellFormed}
+use Rattle.gta_syntax.specs.WellFormed.{FitParts, IsWellFormed}
 use Rattle.gta_syntax.proofs.Fits.{GoodSymbol, AllGood, Good, line_fits}
 
 -- a line's symbols, by its bytes alone

@@ -74,10 +74,10 @@ fn put_first_term(alloc: Global, out: &mut Vec<u8>, term: &TermPart) -> Result<(
 fn put_next_term(alloc: Global, out: &mut Vec<u8>, term: &TermPart) -> Result<(), AllocError>
     ensures { OnOk result (out.new.items ≡ out.old.items ++ line_text (next_term_front term.now [])) }
 {
-    if term.minus {
-        put_spaced(out, b"-")?;
-    } else {
+    if !term.minus {
         put_spaced(out, b"+")?;
+    } else {
+        put_spaced(out, b"-")?;
     }
     put_quantity(alloc, out, false, term)
 }

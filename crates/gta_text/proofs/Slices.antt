@@ -1,11 +1,10 @@
 -- The tokens of a line with their bytes: what stands at their places in any source that holds the line.
-use Rattle.std.proofs.Common.{◌≡◌, ℕ, zero, suc, ◌+◌, ◌-◌, ◌≤◌, ◌<◌, Bool, true, false, cond, ◌&&◌, List, [], ◌∷◌, ◌++◌, length, take, drop, map, refl, sym, ap, subst, ◌∙◌, arith, append_assoc, length-append, length-drop}
+use Rattle.std.proofs.Common.{◌≡◌, ℕ, zero, suc, ◌+◌, ◌-◌, ◌≤◌, ◌<◌, Bool, true, false, cond, ◌&&◌, List, [], ◌∷◌, ◌++◌, length, take, drop, map, refl, sym, ap, ◌∙◌, arith, append_assoc, length-append, length-drop}
 use Rattle.std.proofs.lemmas.List.{drop_at, take-append-le}
 use Rattle.std.proofs.lemmas.List.Sums.{prefix_len-le-length}
 use Rattle.std.specs.Prelude.{nat_eq, ◌==◌}
 use Rattle.std.specs.List.{prefix_len}
 use Rattle.gta_text.specs.declared.token.TokenKind.{TokenKind}
-use Rattle.gta_text.specs.declared.token.TokenKind.TheVariants.{Word, Digits, Text, Sign, Stray}
 use Rattle.gta_text.specs.declared.token.Token.{Token}
 use Rattle.gta_text.specs.Numbers.{is_digit}
 use Rattle.gta_text.specs.Names.{is_letter, is_word_byte}
@@ -31,8 +30,8 @@ Within n token = token.1 ≤ n
 quoted_within : (bs : List ℕ) → Within (length bs) (quoted_at bs)
 quoted_within bs =
     pick (Within (length bs)) (next_is 34 (drop (prefix_len is_text_byte bs) bs))
-      (λ e. omega (arith, next_there 34 (drop (prefix_len is_text_byte bs) bs) e, length-drop (prefix_len is_text_byte bs) bs))
-      (λ e. omega arith)
+    (λ e. omega (arith, next_there 34 (drop (prefix_len is_text_byte bs) bs) e, length-drop (prefix_len is_text_byte bs) bs))
+    (λ e. omega arith)
 
 pub token_within : (b : ℕ) (bs : List ℕ) → (token_at b bs).1 ≤ length bs
 unfolding token_at
@@ -49,7 +48,7 @@ spelled_from skip [] = []
 spelled_from (suc skip) (b ∷ bs) = spelled_from skip bs
 spelled_from zero (b ∷ bs) =
     cond (is_blank b) (spelled_from 0 bs)
-      (cond (nat_eq b 35) [] (((token_at b bs).0, b ∷ take (token_at b bs).1 bs) ∷ spelled_from (token_at b bs).1 bs))
+    (cond (nat_eq b 35) [] (((token_at b bs).0, b ∷ take (token_at b bs).1 bs) ∷ spelled_from (token_at b bs).1 bs))
 
 abbrev pub with_text : List ℕ → Token → TokenKind × List ℕ
 with_text source token = (token.kind, token_text source token)
@@ -71,11 +70,13 @@ slices (b ∷ bs) front back source zero place is at =
     let next_is_source : source ≡ next ++ (bs ++ back) = is ∙ sym (append_assoc front (b ∷ []) (bs ++ back)) in
     let next_place : place + 1 ≡ length next = omega (arith, length-append front (b ∷ [])) in
     let text : take (place + 1 + (token_at b bs).1 - place) (drop place source) ≡ b ∷ take (token_at b bs).1 bs =
-        rw (is, at) (slice_at front bs back b (token_at b bs).1 (token_within b bs)) in
+    rw (is, at) (slice_at front bs back b (token_at b bs).1 (token_within b bs)) in
     elim (is_blank b) as (λ t. map (with_text source) (cond t (tokens_from 0 (place + 1) bs) (cond (nat_eq b 35) [] (record { kind = (token_at b bs).0; start = place; end = place + 1 + (token_at b bs).1 } ∷ tokens_from (token_at b bs).1 (place + 1) bs)))
-          ≡ cond t (spelled_from 0 bs) (cond (nat_eq b 35) [] (((token_at b bs).0, b ∷ take (token_at b bs).1 bs) ∷ spelled_from (token_at b bs).1 bs)))
-      [ true ↦ slices bs next back source 0 (place + 1) next_is_source next_place
+    ≡ cond t (spelled_from 0 bs) (cond (nat_eq b 35) [] (((token_at b bs).0, b ∷ take (token_at b bs).1 bs) ∷ spelled_from (token_at b bs).1 bs))) [
+      | true ↦ slices bs next back source 0 (place + 1) next_is_source next_place
       | false ↦ elim (nat_eq b 35) as (λ t. map (with_text source) (cond t [] (record { kind = (token_at b bs).0; start = place; end = place + 1 + (token_at b bs).1 } ∷ tokens_from (token_at b bs).1 (place + 1) bs))
-          ≡ cond t [] (((token_at b bs).0, b ∷ take (token_at b bs).1 bs) ∷ spelled_from (token_at b bs).1 bs))
-        [ true ↦ refl
-        | false ↦ rw (text, slices bs next back source (token_at b bs).1 (place + 1) next_is_source next_place) refl ] ]
+          ≡ cond t [] (((token_at b bs).0, b ∷ take (token_at b bs).1 bs) ∷ spelled_from (token_at b bs).1 bs)) [
+            | true ↦ refl
+            | false ↦ rw (text, slices bs next back source (token_at b bs).1 (place + 1) next_is_source next_place) refl
+          ]
+    ]

@@ -1,6 +1,5 @@
-use Rattle.std.proofs.Common.{◌≡◌, ◌+◌, ◌∷◌, [], drop, arith, map}
+use Rattle.std.proofs.Common.{◌≡◌, ◌+◌, ◌∷◌, [], drop, arith}
 use Rattle.std.proofs.lemmas.Grind.{common_steps}
-use Rattle.gta_syntax.specs.Parts.{pick_tree}
 use Rattle.gta_syntax.proofs.PartLoops.{drop_at}
 use Rattle.gta_syntax.proofs.Fronts.{next_pick_is_front, written_at_item, written_at_end}
 use Rattle.gta_syntax.proofs.part_printing.put_more_picks.Goals as goal

@@ -1,4 +1,4 @@
-use Rattle.std.proofs.Common.{◌≡◌, ◌+◌, ◌∷◌, [], drop, arith, map}
+use Rattle.std.proofs.Common.{◌≡◌, ◌+◌, ◌∷◌, [], drop, arith}
 use Rattle.std.proofs.lemmas.Grind.{common_steps}
 use Rattle.gta_syntax.proofs.PartLoops.{drop_at}
 use Rattle.gta_syntax.proofs.Fronts.{next_term_is_front, written_at_item, written_at_end}
