@@ -13,6 +13,8 @@ use Rattle.gta_syntax.specs.Rules.{part_at}
 use Rattle.gta_syntax.specs.SpecText.{is_version, has_past, AreParts, none, some, SpecText}
 use Rattle.gta_syntax.specs.Refusals.{ReadTree, first_past, the_part, with_part, parts_from, with_numbers, with_parts, with_lines, with_text, spec_of, read_tree, Refuses, Answers}
 use Rattle.gta_syntax.specs.Refused.{IsFirstOutside, IsFirstPast, IsRefused}
+use Rattle.gta_syntax.specs.WellFormed.{IsWellFormed}
+use Rattle.gta_syntax.proofs.WellRead.{is_well_formed}
 use Rattle.gta_syntax.proofs.Sound.{part_takes}
 use Rattle.gta_syntax.proofs.Complete.{part_again}
 use Rattle.gta_syntax.proofs.PartLoops.{past_here, past_later}
@@ -149,6 +151,10 @@ says bytes = says_text bytes (read_lines bytes) refl
 pub found : (bytes : List ℕ) (result : Result Read SpecFault) → Answers read_tree result (spec_of bytes) → IfOk result (λ read. SpecText bytes (spec_tree read.spec) read.rows_at)
 found bytes (Ok read) e = let P : Result ReadTree SpecFault → Type 0 = Says bytes in subst P e (says bytes)
 found bytes (Err fault) e = search rules
+
+pub fits : (bytes : List ℕ) (result : Result Read SpecFault) → Answers read_tree result (spec_of bytes) → IfOk result (λ read. IsWellFormed (spec_tree read.spec))
+fits bytes (Ok read) e = is_well_formed bytes (spec_tree read.spec) read.rows_at (found bytes (Ok read) e)
+fits bytes (Err fault) e = search rules
 
 refused_as : (bytes : List ℕ) (fault : SpecFault) → spec_of bytes ≡ Err fault → IsRefused bytes fault
 refused_as bytes fault e = let P : Result ReadTree SpecFault → Type 0 = Says bytes in subst P e (says bytes)

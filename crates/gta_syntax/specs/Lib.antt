@@ -6,3 +6,5 @@ pub mod SpecText
 pub mod Refusals
 pub mod Faults
 pub mod Refused
+pub mod WellFormed
+pub mod Canonical

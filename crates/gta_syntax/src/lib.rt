@@ -4,9 +4,12 @@
 mod fault;
 mod line_rules;
 mod measures;
+mod part_printing;
 mod parts;
+mod printing;
 mod reading;
 mod rules;
+mod showing;
 mod symbols;
 
 pub use fault::SpecFault;
@@ -15,3 +18,7 @@ pub use parts::{
     Spec, TablePart, TermPart, TestPart, TimesPart,
 };
 pub use reading::{Read, read_spec};
+pub use showing::show_spec;
+
+#[cfg(test)]
+mod tests;

@@ -8,6 +8,7 @@ ghost use Rattle.gta_syntax.specs.Symbols.{symbols};
 ghost use Rattle.gta_syntax.specs.Rules.{part_at};
 ghost use Rattle.gta_syntax.specs.SpecText.{SpecText, is_version, is_past, has_past};
 ghost use Rattle.gta_syntax.specs.Symbols.{symbol_of};
+ghost use Rattle.gta_syntax.specs.WellFormed.{IsWellFormed};
 ghost use Rattle.gta_syntax.specs.Refused.{IsRefused};
 ghost use Rattle.gta_syntax.specs.declared.fault.SpecFault.{SpecFault};
 ghost use Rattle.gta_syntax.specs.declared.fault.SpecFault.TheVariants.{Memory};
@@ -32,6 +33,7 @@ pub fn read_spec(alloc: Global, bytes: &[u8]) -> Result<Read, SpecFault>
     requires { length bytes.now ≤ INPUT_BOUND }
     // What is read is the text's specification.
     ensures found { IfOk result (λ read. SpecText bytes.now (spec_tree read.spec) read.rows_at) }
+    ensures well_formed { IfOk result (λ read. IsWellFormed (spec_tree read.spec)) }
     // A text that is a specification is read, unless memory runs out.
     ensures only { (spec : SpecTree) (place : ℕ) → SpecText bytes.now spec place → Answers read_tree result (Ok (record { spec = spec; rows_at = place })) }
 

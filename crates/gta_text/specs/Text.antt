@@ -1,5 +1,5 @@
 -- A text as its lines of tokens, up to the line `rows`, and the first byte that may not stand there.
-use Rattle.std.specs.Prelude.{◌≡◌, ℕ, ◌+◌, ◌-◌, Bool, true, false, not, ◌&&◌, ◌||◌, List, [], ◌∷◌, ◌++◌, length, take, drop, map, ◌==◌, nat_eq, nat_lt, nat_le, if◌then◌else◌, slice_index, slice_range, position, Option, Some, None, Result, Ok, Err, codes}
+use Rattle.std.specs.Prelude.{◌≡◌, ℕ, ◌+◌, ◌-◌, ◌<◌, ◌≤◌, Bool, true, false, not, ◌&&◌, ◌||◌, List, [], ◌∷◌, ◌++◌, length, take, drop, map, ◌==◌, nat_eq, nat_lt, nat_le, if◌then◌else◌, slice_index, slice_range, position, Option, Some, None, Result, Ok, Err, codes}
 use Rattle.std.specs.List.{onto_first, starts_with}
 use Rattle.std.specs.Str.{bytes_eq}
 use Rattle.gta_text.specs.declared.token.TokenKind.{TokenKind}
@@ -113,3 +113,22 @@ Fails (Byte line place) read = read ≡ Err (record { line = line; place = place
 abbrev pub Gives : {X Y : Type 0} → (X → Y) → Result X TextFault → Result Y BadByte → Type 0
 Gives view (Ok x) read = read ≡ Ok (view x)
 Gives view (Err fault) read = Fails fault read
+
+-- tokens between two places, in order, each with a byte or more
+abbrev pub AreInOrder : ℕ → ℕ → List Token → Type 0
+AreInOrder lo hi [] = Unit {0}
+AreInOrder lo hi (token ∷ tokens) = (lo ≤ token.start) × (token.start < token.end) × (token.end ≤ hi) × AreInOrder token.end hi tokens
+
+-- the line's tokens are those of a part of the source, at its place
+pub record IsHeld (source : List ℕ) (line : Numbered) : Type 0 where
+  pub front : List ℕ
+  pub held : List ℕ
+  pub back : List ℕ
+  pub whole : source ≡ front ++ (held ++ back)
+  pub tokens : line.tokens ≡ tokens_from 0 (length front) held
+  pub ordered : AreInOrder 0 (length source) line.tokens
+
+-- lines of the source with ascending numbers, from `low` on
+abbrev pub AreHeld : List ℕ → ℕ → List Numbered → Type 0
+AreHeld source low [] = Unit {0}
+AreHeld source low (line ∷ lines) = (low ≤ line.number) × IsHeld source line × AreHeld source (line.number + 1) lines

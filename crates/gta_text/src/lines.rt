@@ -6,6 +6,7 @@ ghost use Rattle.std.specs.Str.{bytes_eq};
 ghost use Rattle.gta_text.specs.Lines.{is_inside, split_line};
 ghost use Rattle.gta_text.specs.Text.{without_last, content, is_plain, first_bad, is_rows};
 ghost use Rattle.gta_text.specs.Text.{mark_length, read_lines, line_view, line_if, lines_view, Gives};
+ghost use Rattle.gta_text.specs.Text.{AreHeld};
 
 use crate::fault::TextFault;
 use crate::token::{Token, TokenKind};
@@ -34,6 +35,15 @@ pub struct Lines {
 /// beginning, a comment from `#` on, and a CR at a line's end are passed over.
 /// `Byte` names the first byte before that line that is no tab, LF, CR at a line's end, or 32 to 126.
 pub fn lines_of(alloc: Global, bytes: &[u8]) -> Result<Lines, TextFault>
+    requires { length bytes.now ≤ INPUT_BOUND }
+    ensures exact { Gives lines_view result (read_lines bytes.now) }
+    // Tokens are slices of the text, in order, and the lines' numbers ascend.
+    ensures held { IfOk result (λ lines. AreHeld bytes.now 1 (lines_view lines).lines) }
+{
+    read_lines(alloc, bytes)
+}
+
+fn read_lines(alloc: Global, bytes: &[u8]) -> Result<Lines, TextFault>
     requires { length bytes.now ≤ INPUT_BOUND }
     ensures { Gives lines_view result (read_lines bytes.now) }
 {

@@ -1,7 +1,7 @@
 use Rattle.std.proofs.Common.{◌≡◌, ◌+◌, ◌≤◌, length, map}
 use Rattle.gta_text.specs.Text.{line_view, read_lines}
 use Rattle.gta_text.proofs.RawLines.{SoFar}
-use Rattle.gta_text.proofs.lines.lines_of.Given as goal
+use Rattle.gta_text.proofs.lines.read_lines.Given as goal
 
 abbrev pub invariant-loop-rest : goal.invariant-loop-rest
 invariant-loop-rest l = record {
