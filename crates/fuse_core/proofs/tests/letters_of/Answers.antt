@@ -1,6 +1,5 @@
-use Rattle.std.proofs.Common.{◌≡◌, rules, refl, sym, subst, inl, inr, ℕ, zero, suc, ◌+◌, ◌*◌, ◌<◌, ◌≤◌, length, List, [], ◌∷◌, ◌++◌, ℤ, Option, arith}
+use Rattle.std.proofs.Common.{◌≡◌, rules, refl, sym, subst, inl, inr, ℕ, zero, suc, ◌+◌, ◌*◌, ◌<◌, ◌≤◌, List, [], ◌∷◌, ◌++◌, ℤ, Option, arith}
 use Rattle.std.proofs.lemmas.Int.{ints}
-use Rattle.std.proofs.lemmas.List.{length_push}
 use Rattle.monoid_kit.specs.Items.{AllElements}
 use Rattle.monoid_kit.proofs.Items.{AllElements-append}
 use Rattle.semiring_kit.specs.MaxPlus.{max_plus}

@@ -1,4 +1,4 @@
-use Rattle.std.proofs.Common.{◌≡◌, ℕ, ◌<◌, ◌≤◌, length}
+use Rattle.std.proofs.Common.{◌≡◌, ◌<◌, ◌≤◌, length}
 use Rattle.monoid_kit.specs.Items.{AllElements}
 use Rattle.semiring_kit.specs.MaxPlus.{max_plus}
 use Rattle.fuse_core.proofs.tests.letters_of.Given as goal
