@@ -1,13 +1,12 @@
 -- The sum over the accepted keys of what a map shows is the sum over the accepted candidates.
-use Rattle.std.proofs.Common.{◌≡◌, refl, sym, ap, ◌∙◌, subst, ℕ, zero, suc, ◌+◌, ◌<◌, ◌≤◌, Bool, true, false, ◌⊎◌, inl, inr, List, [], ◌∷◌, ◌++◌, filter, slice_index_or, nat_eq, arith}
+use Rattle.std.proofs.Common.{◌≡◌, refl, sym, ap, ◌∙◌, subst, ℕ, ◌+◌, Bool, true, false, ◌⊎◌, inl, inr, List, [], ◌∷◌, slice_index_or, arith}
 use Rattle.std.specs.List.{range_with_len}
 use Rattle.monoid_kit.specs.Monoid.{IsMonoid}
-use Rattle.monoid_kit.specs.Items.{IsIn, AllElements}
 use Rattle.monoid_kit.proofs.Products.{product_by-same, product_by-append, product_by-filter}
 use Rattle.monoid_kit.proofs.Keyed.{product_by-keyed}
 use Rattle.semiring_kit.specs.Semiring.{SemiringOn, IsSemiring, IsGood}
 use Rattle.semiring_kit.specs.Total.{total, masked, total_at_key}
-use Rattle.semiring_kit.proofs.Sums.{masked-IsAdditive, add_is_good}
+use Rattle.semiring_kit.proofs.Sums.{masked-IsAdditive}
 use Rattle.shape_gen.specs.declared.mark.Mark.{Mark}
 use Rattle.shape_gen.specs.declared.shape.Shape.{Shape}
 use Rattle.shape_gen.specs.declared.shape.Shape.TheVariants.{Sublists, Assign, Prefixes, Suffixes, Segments}
@@ -17,10 +16,10 @@ use Rattle.shape_gen.proofs.Lists.{range-append}
 use Rattle.shape_gen.proofs.Parts.{candidates-sublists, candidates-assign, candidates-prefixes, candidates-suffixes, candidates-segments}
 use Rattle.fuse_core.specs.declared.letter.Letter.{Letter}
 use Rattle.fuse_core.specs.Letters.{key_of, weight_of, HasLetters}
-use Rattle.fuse_core.specs.Stands.{ShowsSums, Shows, HoldsOfEach, Stands}
+use Rattle.fuse_core.specs.Stands.{Shows, Stands}
 use Rattle.fuse_core.specs.Plans.{accepts, accepted_sum}
 use Rattle.fuse_core.specs.Places.{IsAt}
-use Rattle.fuse_core.proofs.Weighs.{Weighs, weighs}
+use Rattle.fuse_core.proofs.Weighs.{weighs}
 use Rattle.fuse_core.proofs.Reading.{each-at, whole-first}
 
 -- sums over keys, a key more at the end

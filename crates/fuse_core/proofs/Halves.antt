@@ -1,15 +1,14 @@
 -- What the maps of a join show, how far their factors reach and what they cost, from two tuples that stand.
-use Rattle.std.proofs.Common.{◌≡◌, refl, sym, ap, ◌∙◌, subst, ℕ, ◌+◌, ◌-◌, ◌*◌, ◌<◌, ◌≤◌, List, [], ◌∷◌, slice_index_or, arith, mul-le-mul}
+use Rattle.std.proofs.Common.{◌≡◌, ap, ◌∙◌, subst, ℕ, ◌+◌, ◌-◌, ◌*◌, ◌≤◌, List, slice_index_or, arith, mul-le-mul}
 use Rattle.monoid_kit.specs.Monoid.{IsMonoid}
 use Rattle.semiring_kit.specs.Semiring.{SemiringOn, IsSemiring, weight_bound}
 use Rattle.key_map.specs.Convolution.{convolution}
 use Rattle.shape_gen.specs.declared.mark.Mark.{Mark}
 use Rattle.shape_gen.specs.declared.shape.Shape.{Shape}
-use Rattle.shape_gen.specs.Candidates.{run}
-use Rattle.shape_gen.specs.Parts.{Component, Whole, Pre, Suf, Seg, components, wholes, part}
+use Rattle.shape_gen.specs.Parts.{Component, Whole, Pre, Suf, Seg, components, part}
 use Rattle.fuse_core.specs.declared.letter.Letter.{Letter}
 use Rattle.fuse_core.specs.Letters.{key_of, weight_of, HasLetters}
-use Rattle.fuse_core.specs.Stands.{ShowsSums, Shows, HoldsOfEach, Stands}
+use Rattle.fuse_core.specs.Stands.{ShowsSums, Shows, Stands}
 use Rattle.fuse_core.specs.Places.{IsAt, most}
 use Rattle.fuse_core.proofs.Weighs.{weighs}
 use Rattle.fuse_core.proofs.Joins.{whole_shows, pre_shows, suf_shows, seg_shows}

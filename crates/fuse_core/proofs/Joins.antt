@@ -1,10 +1,10 @@
 -- The sums that the parts of an interval show, from those of its halves. They need a semiring, and a key and a weight
 -- that take concatenations to products.
-use Rattle.std.proofs.Common.{◌≡◌, refl, sym, ap, ◌∙◌, subst, ℕ, ◌+◌, ◌-◌, ◌<◌, ◌≤◌, List, [], ◌∷◌, ◌++◌, map, nat_eq}
+use Rattle.std.proofs.Common.{◌≡◌, refl, sym, ap, ◌∙◌, subst, ℕ, ◌-◌, ◌≤◌, List, [], ◌∷◌, ◌++◌, map, nat_eq}
 use Rattle.std.proofs.lemmas.List.{map-append}
 use Rattle.std.specs.List.{flat_map}
 use Rattle.std.specs.List.Sorted.{IsPermutation}
-use Rattle.monoid_kit.specs.Items.{IsIn, pairs}
+use Rattle.monoid_kit.specs.Items.{pairs}
 use Rattle.monoid_kit.proofs.Products.{product_by-same, product_by-map, product_by-append}
 use Rattle.monoid_kit.proofs.Permutations.{product_by-permuted}
 use Rattle.semiring_kit.specs.Semiring.{SemiringOn, IsSemiring}

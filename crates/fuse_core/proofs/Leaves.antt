@@ -1,21 +1,20 @@
 -- What the maps of no row and of one row show, and what a leaf costs.
-use Rattle.std.proofs.Common.{◌≡◌, refl, sym, ap, ◌∙◌, subst, ℕ, zero, suc, ◌+◌, ◌-◌, ◌*◌, ◌<◌, ◌≤◌, Bool, true, false, ◌⊎◌, inl, inr, List, [], ◌∷◌, ◌++◌, length, map, slice_index_or, nat_eq, arith, mul-le-mul, mul-le-mul_right, Result, Ok, Err, IfOk}
+use Rattle.std.proofs.Common.{◌≡◌, sym, ap, ◌∙◌, subst, ℕ, zero, suc, ◌+◌, ◌*◌, ◌<◌, ◌≤◌, true, false, ◌⊎◌, inl, inr, List, [], ◌∷◌, ◌++◌, length, map, slice_index_or, nat_eq, arith, mul-le-mul_right, Result, Ok, Err, IfOk}
 use Rattle.std.proofs.lemmas.List.FromFn.{map-range_with_len_more}
 use Rattle.std.specs.List.{range_with_len}
 use Rattle.monoid_kit.specs.Monoid.{IsMonoid}
-use Rattle.monoid_kit.specs.Items.{IsIn, AllElements}
 use Rattle.semiring_kit.specs.Semiring.{SemiringOn, IsSemiring, IsGood}
-use Rattle.semiring_kit.specs.Total.{masked, total_at_key}
+use Rattle.semiring_kit.specs.Total.{masked}
 use Rattle.shape_gen.specs.declared.mark.Mark.{Mark}
 use Rattle.shape_gen.specs.declared.shape.Shape.{Shape}
 use Rattle.shape_gen.specs.declared.shape.Shape.TheVariants.{Sublists, Assign, Prefixes, Suffixes, Segments}
 use Rattle.shape_gen.specs.Candidates.{mark}
-use Rattle.shape_gen.specs.Parts.{Component, Whole, Pre, Suf, Seg, components, part}
+use Rattle.shape_gen.specs.Parts.{Whole, Pre, Suf, Seg, part}
 use Rattle.shape_gen.proofs.Parts.{whole-none, pre-none, suf-none, seg-none}
 use Rattle.fuse_core.specs.declared.letter.Letter.{Letter}
-use Rattle.fuse_core.specs.Letters.{key_at, elem_at, place_of, key_of, weight_of, HasLetters}
-use Rattle.fuse_core.specs.Stands.{ShowsSums, Shows, HoldsOfEach, Stands}
-use Rattle.fuse_core.proofs.Weighs.{Weighs, weighs, key_at-in_range, elem_at-is_good}
+use Rattle.fuse_core.specs.Letters.{key_at, elem_at, key_of, weight_of, HasLetters}
+use Rattle.fuse_core.specs.Stands.{Shows, Stands}
+use Rattle.fuse_core.proofs.Weighs.{weighs, key_at-in_range, elem_at-is_good}
 use Rattle.fuse_core.proofs.Joins.{sum_shows}
 
 pub if_ok-then : {A B : Type 0} (P R : A → Type 0) → ((a : A) → P a → R a) → (result : Result A B) → IfOk result P → IfOk result R

@@ -1,11 +1,11 @@
 -- Each list of a part has at most one mark of each row, so its weight reaches no further than the rows together.
-use Rattle.std.proofs.Common.{◌≡◌, refl, sym, ap, ◌∙◌, subst, ℕ, zero, suc, ◌+◌, ◌-◌, ◌*◌, ◌<◌, ◌≤◌, max, List, [], ◌∷◌, ◌++◌, map, nat_eq, Bool, true, false, ◌⊎◌, inl, inr, arith}
+use Rattle.std.proofs.Common.{◌≡◌, refl, sym, ap, ◌∙◌, subst, ℕ, zero, suc, ◌+◌, ◌-◌, ◌*◌, ◌<◌, ◌≤◌, List, [], ◌∷◌, ◌++◌, map, nat_eq, Bool, true, false, ◌⊎◌, inl, inr, arith}
 use Rattle.std.proofs.lemmas.Bool.{cases_eq}
 use Rattle.std.specs.List.{range_with_len, flat_map}
 use Rattle.monoid_kit.specs.Items.{IsIn, AllElements}
 use Rattle.monoid_kit.proofs.Products.{product_by-is_element}
-use Rattle.semiring_kit.specs.Semiring.{SemiringOn, IsSemiring, IsGood, weight_bound}
-use Rattle.semiring_kit.specs.Total.{masked, total_at_key}
+use Rattle.semiring_kit.specs.Semiring.{SemiringOn, IsSemiring, IsGood}
+use Rattle.semiring_kit.specs.Total.{masked}
 use Rattle.semiring_kit.proofs.Sums.{masked-IsAdditive, total-reach}
 use Rattle.shape_gen.specs.declared.mark.Mark.{Mark}
 use Rattle.shape_gen.specs.declared.shape.Shape.{Shape}
@@ -13,7 +13,7 @@ use Rattle.shape_gen.specs.declared.shape.Shape.TheVariants.{Sublists, Assign, P
 use Rattle.shape_gen.specs.Candidates.{mark, run, sublists, assignments, prefixes, suffixes, segments}
 use Rattle.shape_gen.specs.Parts.{Component, Whole, Pre, Suf, Seg, lists_of, part}
 use Rattle.fuse_core.specs.declared.letter.Letter.{Letter}
-use Rattle.fuse_core.specs.Letters.{elem_at, place_of, weight_of, greatest_below, row_reach, rows_reach, HasLetters}
+use Rattle.fuse_core.specs.Letters.{elem_at, place_of, weight_of, greatest_below, row_reach, rows_reach}
 use Rattle.fuse_core.specs.Stands.{ShowsSums}
 use Rattle.fuse_core.proofs.Weighs.{elem_at-is_good}
 

@@ -1,10 +1,9 @@
 -- Reading the map of a component out of a tuple.
-use Rattle.std.proofs.Common.{◌≡◌, refl, sym, ap, ◌∙◌, subst, ℕ, zero, suc, ◌+◌, ◌≤◌, List, [], ◌∷◌, slice_index_or, arith, Result, Ok, Err, IfOk}
-use Rattle.shape_gen.specs.declared.mark.Mark.{Mark}
+use Rattle.std.proofs.Common.{◌≡◌, refl, sym, ap, subst, ℕ, zero, suc, ◌≤◌, List, [], ◌∷◌, slice_index_or, arith, Result, Ok, Err, IfOk}
 use Rattle.shape_gen.specs.declared.shape.Shape.{Shape}
 use Rattle.shape_gen.specs.declared.shape.Shape.TheVariants.{Sublists, Assign, Prefixes, Suffixes, Segments}
 use Rattle.shape_gen.specs.Candidates.{run}
-use Rattle.shape_gen.specs.Parts.{Component, Whole, Pre, Suf, Seg, components, wholes}
+use Rattle.shape_gen.specs.Parts.{Component, Whole, Pre, Suf, components, wholes}
 use Rattle.fuse_core.specs.Stands.{HoldsOfEach}
 use Rattle.fuse_core.specs.Places.{IsAt, most}
 

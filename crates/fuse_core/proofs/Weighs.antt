@@ -1,9 +1,8 @@
 -- Keys and weights of candidates: keys are elements, weights are good as far as they reach, and both take
 -- concatenations to products.
-use Rattle.std.proofs.Common.{◌≡◌, ℕ, zero, suc, ◌+◌, ◌*◌, ◌<◌, ◌≤◌, List, [], ◌∷◌, ◌++◌, refl, inl, inr, arith}
+use Rattle.std.proofs.Common.{◌≡◌, ℕ, zero, suc, ◌<◌, List, [], ◌∷◌, ◌++◌, refl, inl, inr}
 use Rattle.monoid_kit.specs.Monoid.{IsMonoid}
-use Rattle.monoid_kit.specs.Items.{IsIn, AllElements}
-use Rattle.monoid_kit.specs.Product.{product_by}
+use Rattle.monoid_kit.specs.Items.{AllElements}
 use Rattle.monoid_kit.proofs.Products.{product_by-is_element, product_by-append}
 use Rattle.semiring_kit.specs.Semiring.{SemiringOn, IsSemiring, IsGood}
 use Rattle.semiring_kit.proofs.Sums.{one_is_good}

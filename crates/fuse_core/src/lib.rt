@@ -9,6 +9,8 @@ mod letter;
 mod pieces;
 mod plan;
 mod rows;
+#[cfg(test)]
+mod tests;
 mod tuples;
 
 pub use finishing::finish;

@@ -1,4 +1,4 @@
-use Rattle.std.proofs.Common.{◌≡◌, ◌∙◌, refl, sym, ap, subst, ℕ}
+use Rattle.std.proofs.Common.{◌∙◌, sym, subst, ℕ}
 use Rattle.semiring_kit.specs.Semiring.{IsGood}
 use Rattle.semiring_kit.proofs.Sums.{add_is_good}
 use Rattle.fuse_core.proofs.Accepted.{accepted-more, rejected-more}

@@ -1,4 +1,4 @@
-use Rattle.std.proofs.Common.{◌≡◌, ℕ}
+use Rattle.std.proofs.Common.{◌≡◌}
 use Rattle.std.specs.List.{range_with_len}
 use Rattle.semiring_kit.specs.Semiring.{IsGood}
 use Rattle.semiring_kit.specs.Total.{total, masked}

@@ -1,4 +1,3 @@
-use Rattle.std.proofs.Common.{◌≡◌, refl}
 use Rattle.fuse_core.proofs.Leaves.{if_ok-then}
 use Rattle.fuse_core.proofs.Accepted.{finish-one, finish-two, finish-four}
 use Rattle.fuse_core.proofs.finishing.finish.Goals as goal

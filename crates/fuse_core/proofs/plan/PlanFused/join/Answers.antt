@@ -1,4 +1,3 @@
-use Rattle.std.proofs.Common.{◌≡◌, ◌≤◌}
 use Rattle.fuse_core.proofs.Leaves.{join-cost}
 use Rattle.fuse_core.proofs.Reading.{most-within}
 use Rattle.fuse_core.proofs.plan.PlanFused.join.Goals as goal

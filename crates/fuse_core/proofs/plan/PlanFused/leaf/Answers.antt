@@ -1,4 +1,4 @@
-use Rattle.std.proofs.Common.{◌≡◌, refl, arith, ◌+◌, ◌-◌, ◌≤◌}
+use Rattle.std.proofs.Common.{arith, ◌+◌, ◌-◌, ◌≤◌}
 use Rattle.fuse_core.proofs.Leaves.{leaf-cost}
 use Rattle.fuse_core.proofs.plan.PlanFused.leaf.Goals as goal
 

@@ -1,4 +1,4 @@
-use Rattle.std.proofs.Common.{◌≡◌, ℕ, ◌+◌, ◌-◌, ◌*◌, ◌≤◌}
+use Rattle.std.proofs.Common.{◌+◌, ◌-◌, ◌*◌, ◌≤◌}
 use Rattle.fuse_core.specs.Letters.{key_of, weight_of}
 use Rattle.fuse_core.specs.Stands.{Stands}
 use Rattle.fuse_core.proofs.plan.PlanFused.leaf.Given as goal

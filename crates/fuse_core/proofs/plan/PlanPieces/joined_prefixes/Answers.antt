@@ -1,5 +1,4 @@
-use Rattle.std.proofs.Common.{◌≡◌, refl, ℕ, ◌≤◌, arith}
-use Rattle.shape_gen.specs.Parts.{Whole, Pre, Suf, Seg}
+use Rattle.shape_gen.specs.Parts.{Whole, Pre}
 use Rattle.fuse_core.proofs.Reading.{if_ok-both, whole-first}
 use Rattle.fuse_core.proofs.Halves.{reach-at, cost-at, pre-value}
 use Rattle.fuse_core.proofs.plan.PlanPieces.joined_prefixes.Goals as goal

@@ -1,6 +1,5 @@
-use Rattle.std.proofs.Common.{◌≡◌, refl, ℕ, ◌≤◌, arith}
-use Rattle.shape_gen.specs.Parts.{Whole, Pre, Suf, Seg}
-use Rattle.fuse_core.proofs.Reading.{if_ok-both, whole-first}
+use Rattle.shape_gen.specs.Parts.{Pre, Suf}
+use Rattle.fuse_core.proofs.Reading.{if_ok-both}
 use Rattle.fuse_core.proofs.Halves.{reach-at, cost-at, seg-value}
 use Rattle.fuse_core.proofs.plan.PlanPieces.joined_segments.Goals as goal
 

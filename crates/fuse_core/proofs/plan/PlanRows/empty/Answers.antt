@@ -1,4 +1,4 @@
-use Rattle.std.proofs.Common.{◌≡◌, refl, ◌∙◌, ap}
+use Rattle.std.proofs.Common.{◌∙◌, ap}
 use Rattle.fuse_core.proofs.Reading.{if_ok-both}
 use Rattle.fuse_core.proofs.Leaves.{empty-value}
 use Rattle.fuse_core.proofs.plan.PlanRows.empty.Goals as goal

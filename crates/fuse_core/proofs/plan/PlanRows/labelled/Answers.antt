@@ -1,4 +1,4 @@
-use Rattle.std.proofs.Common.{◌≡◌, refl, ◌≤◌, subst, arith}
+use Rattle.std.proofs.Common.{◌≡◌, arith}
 use Rattle.fuse_core.proofs.Leaves.{label-more, labels-all}
 use Rattle.fuse_core.proofs.plan.PlanRows.labelled.Goals as goal
 

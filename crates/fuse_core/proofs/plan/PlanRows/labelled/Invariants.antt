@@ -1,4 +1,4 @@
-use Rattle.std.proofs.Common.{◌≡◌, ℕ, ◌≤◌, List, [], ◌∷◌, map}
+use Rattle.std.proofs.Common.{◌≤◌, [], ◌∷◌, map}
 use Rattle.std.specs.List.{range_with_len}
 use Rattle.shape_gen.specs.Candidates.{mark}
 use Rattle.fuse_core.specs.Letters.{key_of, weight_of}

@@ -1,4 +1,3 @@
-use Rattle.std.proofs.Common.{◌≡◌, refl}
 use Rattle.fuse_core.proofs.Reading.{if_ok-both}
 use Rattle.fuse_core.proofs.Leaves.{letter-is_good, letter-key, marked-value}
 use Rattle.fuse_core.proofs.plan.PlanRows.marked.Goals as goal

@@ -1,4 +1,3 @@
-use Rattle.std.proofs.Common.{◌≡◌, refl, ℕ}
 use Rattle.fuse_core.proofs.Leaves.{if_ok-then, none-one, none-two, none-four}
 use Rattle.fuse_core.proofs.plan.PlanRows.no_row.Goals as goal
 
