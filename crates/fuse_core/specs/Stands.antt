@@ -23,8 +23,13 @@ HoldsOfEach P [] (map ∷ maps) = ⊥
 HoldsOfEach P (component ∷ components) [] = ⊥
 HoldsOfEach P (component ∷ components) (map ∷ maps) = P component map × HoldsOfEach P components maps
 
--- maps stand for the rows lo..hi: one for each component of the shape, which shows the sums of its part
+-- maps stand for the rows lo..hi: there is one for each component of the shape, which shows its part
+abbrev pub StandsBy : {M : Type 0} → (List (List Mark) → M → Type 0) → Shape → ℕ → ℕ → ℕ → List M → Type 0
+StandsBy shows shape labels lo hi maps =
+    HoldsOfEach (λ component map. shows (part shape labels component lo hi) map) (components shape) maps
+
+-- maps stand for the rows lo..hi, each showing the sums of its part
 abbrev pub Stands : {E M : Type 0} → SemiringOn E → (List Mark → ℕ) → (List Mark → E) → (M → Type 0) → (M → ℕ → E)
     → Shape → ℕ → ℕ → ℕ → List M → Type 0
 Stands r key weight fits value_at shape labels lo hi maps =
-    HoldsOfEach (λ component map. Shows r key weight fits value_at (part shape labels component lo hi) map) (components shape) maps
+    StandsBy (Shows r key weight fits value_at) shape labels lo hi maps

@@ -6,7 +6,7 @@ ghost use Rattle.std.specs.Prelude.{◌≡◌, ℕ, ◌+◌, ◌*◌, ◌≤◌,
 ghost use Rattle.shape_gen.specs.declared.mark.Mark.{Mark};
 ghost use Rattle.shape_gen.specs.declared.shape.Shape.{Shape};
 ghost use Rattle.shape_gen.specs.Parts.{components, part, Whole, Pre, Suf, Seg};
-ghost use Rattle.fuse_core.specs.Stands.{HoldsOfEach};
+ghost use Rattle.fuse_core.specs.Stands.{StandsBy};
 ghost use Rattle.fuse_core.specs.Places.{IsAt, most};
 
 use crate::letter::Tuple;
@@ -44,8 +44,8 @@ pub(crate) trait Pieces: Drop {
         requires left_ordered { lo ≤ mid }
         requires right_ordered { mid ≤ hi }
         requires within { hi ≤ rows self.now }
-        requires left_stands { HoldsOfEach (λ j map. shows self.now (part (shape self.now) (labels self.now) j lo mid) map) (components (shape self.now)) left.now.maps.items }
-        requires right_stands { HoldsOfEach (λ j map. shows self.now (part (shape self.now) (labels self.now) j mid hi) map) (components (shape self.now)) right.now.maps.items }
+        requires left_stands { StandsBy (shows self.now) (shape self.now) (labels self.now) lo mid left.now.maps.items }
+        requires right_stands { StandsBy (shows self.now) (shape self.now) (labels self.now) mid hi right.now.maps.items }
         ensures shows { IfOk result (shows self.now (part (shape self.now) (labels self.now) Whole lo hi)) }
         ensures cost { steps.new ≤ steps.old + most (kept self.now) left.now.maps.items * size self.now };
 
@@ -63,8 +63,8 @@ pub(crate) trait Pieces: Drop {
         requires left_ordered { lo ≤ mid }
         requires right_ordered { mid ≤ hi }
         requires within { hi ≤ rows self.now }
-        requires left_stands { HoldsOfEach (λ j map. shows self.now (part (shape self.now) (labels self.now) j lo mid) map) (components (shape self.now)) left.now.maps.items }
-        requires right_stands { HoldsOfEach (λ j map. shows self.now (part (shape self.now) (labels self.now) j mid hi) map) (components (shape self.now)) right.now.maps.items }
+        requires left_stands { StandsBy (shows self.now) (shape self.now) (labels self.now) lo mid left.now.maps.items }
+        requires right_stands { StandsBy (shows self.now) (shape self.now) (labels self.now) mid hi right.now.maps.items }
         requires second { IsAt (components (shape self.now)) 1 Pre }
         ensures shows { IfOk result (shows self.now (part (shape self.now) (labels self.now) Pre lo hi)) }
         ensures cost { steps.new ≤ steps.old + most (kept self.now) left.now.maps.items * size self.now };
@@ -84,8 +84,8 @@ pub(crate) trait Pieces: Drop {
         requires left_ordered { lo ≤ mid }
         requires right_ordered { mid ≤ hi }
         requires within { hi ≤ rows self.now }
-        requires left_stands { HoldsOfEach (λ j map. shows self.now (part (shape self.now) (labels self.now) j lo mid) map) (components (shape self.now)) left.now.maps.items }
-        requires right_stands { HoldsOfEach (λ j map. shows self.now (part (shape self.now) (labels self.now) j mid hi) map) (components (shape self.now)) right.now.maps.items }
+        requires left_stands { StandsBy (shows self.now) (shape self.now) (labels self.now) lo mid left.now.maps.items }
+        requires right_stands { StandsBy (shows self.now) (shape self.now) (labels self.now) mid hi right.now.maps.items }
         requires at_place { IsAt (components (shape self.now)) place Suf }
         ensures shows { IfOk result (shows self.now (part (shape self.now) (labels self.now) Suf lo hi)) }
         ensures cost { steps.new ≤ steps.old + most (kept self.now) left.now.maps.items * size self.now };
@@ -104,8 +104,8 @@ pub(crate) trait Pieces: Drop {
         requires left_ordered { lo ≤ mid }
         requires right_ordered { mid ≤ hi }
         requires within { hi ≤ rows self.now }
-        requires left_stands { HoldsOfEach (λ j map. shows self.now (part (shape self.now) (labels self.now) j lo mid) map) (components (shape self.now)) left.now.maps.items }
-        requires right_stands { HoldsOfEach (λ j map. shows self.now (part (shape self.now) (labels self.now) j mid hi) map) (components (shape self.now)) right.now.maps.items }
+        requires left_stands { StandsBy (shows self.now) (shape self.now) (labels self.now) lo mid left.now.maps.items }
+        requires right_stands { StandsBy (shows self.now) (shape self.now) (labels self.now) mid hi right.now.maps.items }
         requires pre_second { IsAt (components (shape self.now)) 1 Pre }
         requires suf_third { IsAt (components (shape self.now)) 2 Suf }
         requires seg_fourth { IsAt (components (shape self.now)) 3 Seg }
@@ -126,8 +126,8 @@ pub(crate) trait Pieces: Drop {
         requires left_ordered { lo ≤ mid }
         requires right_ordered { mid ≤ hi }
         requires within { hi ≤ rows self.now }
-        requires left_stands { HoldsOfEach (λ j map. shows self.now (part (shape self.now) (labels self.now) j lo mid) map) (components (shape self.now)) left.now.maps.items }
-        requires right_stands { HoldsOfEach (λ j map. shows self.now (part (shape self.now) (labels self.now) j mid hi) map) (components (shape self.now)) right.now.maps.items }
-        ensures stands { IfOk result (λ tuple. HoldsOfEach (λ j map. shows self.now (part (shape self.now) (labels self.now) j lo hi) map) (components (shape self.now)) tuple.maps.items) }
+        requires left_stands { StandsBy (shows self.now) (shape self.now) (labels self.now) lo mid left.now.maps.items }
+        requires right_stands { StandsBy (shows self.now) (shape self.now) (labels self.now) mid hi right.now.maps.items }
+        ensures stands { IfOk result (λ tuple. StandsBy (shows self.now) (shape self.now) (labels self.now) lo hi tuple.maps.items) }
         ensures cost { steps.new ≤ steps.old + 4 * (most (kept self.now) left.now.maps.items * size self.now) };
 }

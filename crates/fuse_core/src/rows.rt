@@ -6,7 +6,7 @@ ghost use Rattle.shape_gen.specs.declared.mark.Mark.{Mark};
 ghost use Rattle.shape_gen.specs.declared.shape.Shape.{Shape};
 ghost use Rattle.shape_gen.specs.Candidates.{mark};
 ghost use Rattle.shape_gen.specs.Parts.{components, part};
-ghost use Rattle.fuse_core.specs.Stands.{HoldsOfEach};
+ghost use Rattle.fuse_core.specs.Stands.{StandsBy};
 ghost use Rattle.fuse_core.specs.Places.{most};
 
 use crate::letter::Tuple;
@@ -37,7 +37,7 @@ pub(crate) trait Rows: Drop {
 
     /// The tuple of no row.
     fn no_row(&self, alloc: Global) -> Result<Tuple<Self::Map>, AllocError>
-        ensures { IfOk result (λ tuple. (lo : ℕ) → HoldsOfEach (λ j map. shows self.now (part (shape self.now) (labels self.now) j lo lo) map) (components (shape self.now)) tuple.maps.items) };
+        ensures { IfOk result (λ tuple. (lo : ℕ) → StandsBy (shows self.now) (shape self.now) (labels self.now) lo lo tuple.maps.items) };
 
     /// The map of the one list with this mark.
     fn marked(&self, alloc: Global, row: u32, label: u32) -> Result<Self::Map, AllocError>
@@ -61,6 +61,6 @@ pub(crate) trait Rows: Drop {
     /// The tuple of one row.
     fn one_row(&self, alloc: Global, row: u32) -> Result<Tuple<Self::Map>, AllocError>
         requires row_in_range { row < rows self.now }
-        ensures stands { IfOk result (λ tuple. HoldsOfEach (λ j map. shows self.now (part (shape self.now) (labels self.now) j row (row + 1)) map) (components (shape self.now)) tuple.maps.items) }
+        ensures stands { IfOk result (λ tuple. StandsBy (shows self.now) (shape self.now) (labels self.now) row (row + 1) tuple.maps.items) }
         ensures kept { IfOk result (λ tuple. most (kept self.now) tuple.maps.items ≤ labels self.now + 1) };
 }
