@@ -1,5 +1,5 @@
-//! Worked answers of every shape, by one leaf and by every cut into three, over sums with a bound and over a monoid in
-//! which factors may not change places.
+//! Worked answers of every shape, by one leaf and by cuts into three, over sums with a bound and over a monoid in which
+//! factors may not change places.
 
 ghost use Rattle.std.specs.Prelude.{◌≡◌, ◌⊎◌, ℕ, ◌+◌, ◌*◌, ◌<◌, ◌≤◌, length, IfOk};
 ghost use Rattle.monoid_kit.specs.Items.{AllElements};
@@ -144,7 +144,7 @@ fn labels_of(shape: Shape) -> u32
     }
 }
 
-// The greatest accepted total comes out by one leaf and by every cut.
+// The greatest accepted total comes out by one leaf, and by cuts at each row and at half of the rows before it.
 fn assert_greatest<M: Monoid>(
     rt: &impl Abort,
     alloc: Global,
