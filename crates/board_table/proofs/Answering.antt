@@ -16,25 +16,25 @@ use Rattle.board_core.proofs.MeaningLemmas.{is_lowest}
 use Rattle.board_core.proofs.Keeps.{pair_stands}
 use Rattle.board_table.specs.Seen.{SeatSeen}
 use Rattle.board_table.specs.Changes.{IsBoardOf, HasWon, MayGoHome, done_seat}
-use Rattle.board_table.specs.Answers.{IsPiece, OfferKept, OfferOverlaps, OfferFull, ClaimPair, ClaimRefused, Ends, IsPair, Closes}
-use Rattle.board_table.proofs.Calling.{brings_claim, brings_offer, brings_settle, brings_put_back, offer_nonempty, offer_within, goes_home, is_after, offer_kept, offer_overlaps, offer_full, claim_pair, claim_none, claim_full, on_board, own_claim, settled, was_put_back}
+use Rattle.board_table.specs.Answers.{StandsIn, IsWithin, OfferKept, OfferOverlaps, OfferFull, ClaimPair, ClaimRefused, Ends, IsPair, Closes}
+use Rattle.board_table.proofs.Calling.{brings_claim, brings_offer, brings_settle, brings_put_back, within_board, goes_home, is_after, offer_kept, offer_overlaps, offer_full, claim_pair, claim_none, claim_full, on_board, own_claim, settled, was_put_back}
 
 module _ {F W : Type 0} (rows : F → ℕ) (stands : F → ℕ → ℕ → W → Type 0) (old mid : SeatSeen F) (b : PlainBoard W) (won : HasWon rows stands old b mid) where
   module _ (who : ℕ) (named : who ≡ mid.number) (d : PlainBoard W) where
     own : who ≡ old.number
     own = named ∙ ap (λ (s : SeatSeen F). s.number) won.seat
 
-    module _ (p : Piece W) (piece : IsPiece rows stands old.plan p.lo p.hi p.value) where
+    module _ (p : Piece W) (nonempty : p.lo < p.hi) (within : IsWithin rows old.plan p.hi) (value_stands : StandsIn stands old.plan p.lo p.hi p.value) where
       offer_step : (answer : CoreOffered W) → Offers b who p answer d → IsStep b (offer old.number p answer) d
       offer_step answer step = (
-        offer_nonempty rows stands old.plan p piece,
-        offer_within rows stands old.plan old.room b p won.of_seat piece,
+        nonempty,
+        within_board rows stands old.plan old.room b p.hi won.of_seat within,
         subst (λ (n : ℕ). Offers b n p answer d) own step,
       )
 
       pub offer_home : (answer : CoreOffered W) → Offers b who p answer d → MayGoHome rows stands mid d
       offer_home answer step =
-          goes_home rows stands old mid b won (offer old.number p answer) d (offer_step answer step) (brings_offer rows stands old.plan old.number p answer piece) refl
+          goes_home rows stands old mid b won (offer old.number p answer) d (offer_step answer step) (brings_offer rows stands old.plan old.number p answer value_stands) refl
 
       pub is_kept : (new : SeatSeen F) → new ≡ done_seat mid d.log → Offers b who p offered.Kept d → OfferKept old p new
       is_kept new is step =
@@ -79,30 +79,28 @@ module _ {F W : Type 0} (rows : F → ℕ) (stands : F → ℕ → ℕ → W →
         subst (λ (s : SeatSeen F). ClaimRefused old claimed.Full s) (is_after rows stands old mid b won (claim old.number claimed.Full) d call new is)
         (claim_full rows stands old mid b won d call)
 
-    pair_of_plan : (plan : Option F) (t : Taken W) → IsBoardOf rows stands plan old.room b → Claims b who (claimed.Pair t) d → IsSomeAnd plan (λ plan. IsPair rows stands plan t)
+    pair_of_plan : (plan : Option F) (t : Taken W) → IsBoardOf rows stands plan old.room b → Claims b who (claimed.Pair t) d → IsPair rows stands plan t
     pair_of_plan None t fits step = absurd fits
     pair_of_plan (Some plan) t fits step =
         let lowest : IsLowestPair b t = is_lowest b t fits.sound.sound step.1 in
-        let adjoin = lowest.adjoins in
-        let left = lowest.left_nonempty in
-        let right = lowest.right_nonempty in
-        let within = lowest.within in
-        let same = fits.rows_are in
         let both = pair_stands (stands plan) b t fits.sound.stand step.1 in
         record {
-          left = record { nonempty = left; within = omega arith; value_stands = both.0 };
-          right = record { nonempty = right; within = omega arith; value_stands = both.1 };
-          adjoin = adjoin;
+          left_stands = both.0;
+          right_stands = both.1;
+          left_nonempty = lowest.left_nonempty;
+          adjoin = lowest.adjoins;
+          right_nonempty = lowest.right_nonempty;
+          within = (let low = lowest.within in let same = fits.rows_are in omega arith);
         }
 
-    pub both_stand : (t : Taken W) → Claims b who (claimed.Pair t) d → IsSomeAnd old.plan (λ plan. IsPair rows stands plan t)
+    pub both_stand : (t : Taken W) → Claims b who (claimed.Pair t) d → IsPair rows stands old.plan t
     both_stand t step = pair_of_plan old.plan t won.of_seat step
 
   module _ (t : Taken W) (is_claim : IsClaim t old.taken) (d : PlainBoard W) where
     settle_step : (value : W) → d ≡ with_settle b t value → IsStep b (settle t value) d
     settle_step value step = (on_board rows stands old mid b won t is_claim, step)
 
-    pub settle_home : (value : W) → IsSomeAnd old.plan (λ plan. stands plan t.left.lo t.right.hi value) → d ≡ with_settle b t value → MayGoHome rows stands mid d
+    pub settle_home : (value : W) → StandsIn stands old.plan t.left.lo t.right.hi value → d ≡ with_settle b t value → MayGoHome rows stands mid d
     settle_home value value_stands step =
         goes_home rows stands old mid b won (settle t value) d (settle_step value step) (brings_settle rows stands old.plan t value value_stands)
         (own_claim rows stands old mid b won t is_claim)

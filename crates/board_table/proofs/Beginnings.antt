@@ -11,7 +11,7 @@ use Rattle.board_table.specs.Views.{StartsWith}
 use Rattle.board_table.specs.Changes.{Grows}
 
 module _ {A : Type 0} where
-  is_nothing : (xs : List A) → length xs ≡ 0 → xs ≡ []
+  pub is_nothing : (xs : List A) → length xs ≡ 0 → xs ≡ []
   is_nothing [] none = refl
   is_nothing (x ∷ xs) none = absurd (omega arith)
 
@@ -83,3 +83,23 @@ module _ (who : ℕ) (seen log : List Logged) (grows : Grows who seen log) where
       (λ same. ap (claims_of n) same)
       (λ more. ap (claims_of n) more.2 ∙ claims_other n seen more.0 (λ own. other (sym own ∙ more.1)))
       grows
+
+module _ {A : Type 0} where
+  abbrev rest_of : List A → List A
+  rest_of [] = []
+  rest_of (x ∷ xs) = xs
+
+  abbrev head_of : A → List A → A
+  head_of d [] = d
+  head_of d (x ∷ xs) = x
+
+  shorter_begins : (a b r s : List A) → a ++ r ≡ b ++ s → length b ≤ length a → (rest : List A) × (a ≡ b ++ rest)
+  shorter_begins a [] r s same less = (a, refl)
+  shorter_begins [] (y ∷ ys) r s same less = absurd (omega arith)
+  shorter_begins (x ∷ xs) (y ∷ ys) r s same less =
+      let more = shorter_begins xs ys r s (ap rest_of same) (omega arith) in
+      (more.0, ap (λ z. z ∷ xs) (ap (head_of x) same) ∙ ap (λ zs. y ∷ zs) more.1)
+
+-- of two beginnings of one log the shorter is a beginning of the other
+pub starts_both : (log a b : List Logged) → StartsWith log a → StartsWith log b → length b ≤ length a → StartsWith a b
+starts_both log a b one two less = shorter_begins a b one.0 two.0 (sym one.1 ∙ two.1) less

@@ -24,7 +24,7 @@ use Rattle.board_table.specs.Views.{StartsWith}
 use Rattle.board_table.specs.Rule.{IsBoardFor}
 use Rattle.board_table.specs.Seen.{SeatSeen, IsSameSeat}
 use Rattle.board_table.specs.Changes.{IsBoardOf, HasWon, MayGoHome, Grows, won_seat, done_seat}
-use Rattle.board_table.specs.Answers.{IsPieceOf, IsPiece, replay_at, Wins, Adds, Leaves, OfferKept, OfferOverlaps, OfferFull, ClaimPair, ClaimRefused, Ends, IsPair, Closes}
+use Rattle.board_table.specs.Answers.{StandsIn, IsWithin, replay_at, Wins, Adds, Leaves, OfferKept, OfferOverlaps, OfferFull, ClaimPair, ClaimRefused, Ends, IsPair, Closes}
 use Rattle.board_table.proofs.Beginnings.{starts_trans, grows_starts, entries_own}
 
 -- the claims of one number are its own
@@ -94,9 +94,9 @@ module _ {F W : Type 0} (rows : F → ℕ) (stands : F → ℕ → ℕ → W →
   brings_claim None room b who answer fits = absurd fits
   brings_claim (Some plan) room b who answer fits = tt
 
-  pub brings_offer : (plan : Option F) (who : ℕ) (p : Piece W) (answer : CoreOffered W) → IsPiece rows stands plan p.lo p.hi p.value → BringsFor plan (offer who p answer)
-  brings_offer None who p answer piece = absurd piece
-  brings_offer (Some plan) who p answer piece = piece.value_stands
+  pub brings_offer : (plan : Option F) (who : ℕ) (p : Piece W) (answer : CoreOffered W) → StandsIn stands plan p.lo p.hi p.value → BringsFor plan (offer who p answer)
+  brings_offer None who p answer value_stands = absurd value_stands
+  brings_offer (Some plan) who p answer value_stands = value_stands
 
   pub brings_settle : (plan : Option F) (t : Taken W) (value : W) → IsSomeAnd plan (λ plan. stands plan t.left.lo t.right.hi value) → BringsFor plan (settle t value)
   brings_settle None t value value_stands = absurd value_stands
@@ -107,14 +107,9 @@ module _ {F W : Type 0} (rows : F → ℕ) (stands : F → ℕ → ℕ → W →
   brings_put_back None t left right = absurd left
   brings_put_back (Some plan) t left right = (left, right)
 
-  pub offer_nonempty : (plan : Option F) (p : Piece W) → IsPiece rows stands plan p.lo p.hi p.value → p.lo < p.hi
-  offer_nonempty None p piece = absurd piece
-  offer_nonempty (Some plan) p piece = piece.nonempty
-
-  pub offer_within : (plan : Option F) (room : ℕ) (b : PlainBoard W) (p : Piece W) → IsBoardOf rows stands plan room b → IsPiece rows stands plan p.lo p.hi p.value
-      → p.hi ≤ b.rows
-  offer_within None room b p fits piece = absurd fits
-  offer_within (Some plan) room b p fits piece = let low = piece.within in let same = fits.rows_are in omega arith
+  pub within_board : (plan : Option F) (room : ℕ) (b : PlainBoard W) (row : ℕ) → IsBoardOf rows stands plan room b → IsWithin rows plan row → row ≤ b.rows
+  within_board None room b row fits within = absurd fits
+  within_board (Some plan) room b row fits within = let low : row ≤ rows plan = within in let same = fits.rows_are in omega arith
 
   module _ (old mid : SeatSeen F) (b : PlainBoard W) (won : HasWon rows stands old b mid) where
     sound : IsSound b

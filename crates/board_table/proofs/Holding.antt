@@ -71,7 +71,7 @@ module _ {F W : Type 0} where
     missed st n (view.Seat p, held) after fits idle step other = ⊎_elim
         (λ won. absurd (other won.0))
         (λ lost. subst (λ (a : Holder F W). Missed (view.Seat p, held) a) (sym lost.1) (
-          record { number_is = fits.number_is; spare_is = fits.spare_is; no_olds = fits.no_olds; slots_are = fits.slots_are },
+          record { number_is = fits.number_is; spare_is = fits.spare_is; in_range = fits.in_range; no_olds = fits.no_olds; slots_are = fits.slots_are },
           refl,
         ))
         step
@@ -102,7 +102,7 @@ module _ {F W : Type 0} where
             let is : after ≡ (view.Seat (winner p b.log), (0, None) ∷ []) = exchanged ∙ ap (λ (m : Holder F W). (m.0, (0, None) ∷ rest m.1)) w.seat in
             subst (λ (y : Slot W). Won (view.Seat p, held) y after) (sym value)
             (subst (λ (a : Holder F W). Won (view.Seat p, held) (Some b) a) (sym is) (
-              record { number_is = fits.number_is; spare_is = fits.spare_is; no_olds = fits.no_olds; slots_are = refl },
+              record { number_is = fits.number_is; spare_is = fits.spare_is; in_range = fits.in_range; no_olds = fits.no_olds; slots_are = refl },
               record {
                 seat = refl;
                 of_seat = w.finds.of_terms;
@@ -146,7 +146,7 @@ module _ {F W : Type 0} where
         let is : after ≡ (view.Seat (done p b.log), []) =
         subst (λ (m : Holder F W). frees st m n after) (carried_home b p held mid fits home.holds exchanged) step in
         subst (λ (a : Holder F W). Freed (view.Seat p, held) b a) (sym is) (
-          record { number_is = fits.number_is; spare_is = fits.spare_is; no_olds = fits.no_olds; slots_are = refl },
+          record { number_is = fits.number_is; spare_is = fits.spare_is; in_range = fits.in_range; no_olds = fits.no_olds; slots_are = refl },
           refl,
         )
     is_freed st n b (view.Note s, held) mid after fits home exchanged step = absurd fits

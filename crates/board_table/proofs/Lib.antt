@@ -2,5 +2,7 @@
 pub mod Beginnings
 pub mod Turns
 pub mod Holding
+pub mod Seating
+pub mod Meeting
 pub mod Calling
 pub mod Answering

@@ -23,17 +23,15 @@ use Rattle.board_table.specs.Views.{StartsWith}
 use Rattle.board_table.specs.Seen.{SeatSeen}
 use Rattle.board_table.specs.Changes.{Misses, won_seat}
 
-module _ {W : Type 0} where
-  -- in a plan, the value stands for the interval, which is nonempty and within the rows
-  pub record IsPieceOf (rows : ℕ) (stands : ℕ → ℕ → W → Type 0) (lo hi : ℕ) (value : W) : Type 0 where
-    pub nonempty : lo < hi
-    pub within : hi ≤ rows
-    pub value_stands : stands lo hi value
-
 module _ {F W : Type 0} where
-  abbrev pub IsPiece : (F → ℕ) → (F → ℕ → ℕ → W → Type 0) → Option F → ℕ → ℕ → W → Type 0
-  IsPiece rows stands plan lo hi value =
-      IsSomeAnd plan (λ plan. IsPieceOf (rows plan) (stands plan) lo hi value)
+  -- in the seat's plan, the value stands for the rows from lo to hi
+  abbrev pub StandsIn : (F → ℕ → ℕ → W → Type 0) → Option F → ℕ → ℕ → W → Type 0
+  StandsIn stands plan lo hi value = IsSomeAnd plan (λ plan. stands plan lo hi value)
+
+module _ {F : Type 0} where
+  -- the row is no further than the end of the plan's rows
+  abbrev pub IsWithin : (F → ℕ) → Option F → ℕ → Type 0
+  IsWithin rows plan row = IsSomeAnd plan (λ plan. row ≤ rows plan)
 
 module _ {F : Type 0} where
   -- the board without values that a log of the seat's board gives
@@ -133,13 +131,16 @@ module _ {F : Type 0} where
 
     module _ (rows : F → ℕ) (stands : F → ℕ → ℕ → W → Type 0) where
       -- both values stand for their intervals, which are nonempty, adjoin, and lie within the rows
-      pub record IsPair (plan : F) (t : Taken W) : Type 0 where
-        pub left : IsPieceOf (rows plan) (stands plan) t.left.lo t.left.hi t.left.value
-        pub right : IsPieceOf (rows plan) (stands plan) t.right.lo t.right.hi t.right.value
+      pub record IsPair (plan : Option F) (t : Taken W) : Type 0 where
+        pub left_stands : StandsIn stands plan t.left.lo t.left.hi t.left.value
+        pub right_stands : StandsIn stands plan t.right.lo t.right.hi t.right.value
+        pub left_nonempty : t.left.lo < t.left.hi
         pub adjoin : t.left.hi ≡ t.right.lo
+        pub right_nonempty : t.right.lo < t.right.hi
+        pub within : IsWithin rows plan t.right.hi
 
       abbrev pub PairStands : Option F → Claimed W → Type 0
-      PairStands plan (claimed.Pair t) = IsSomeAnd plan (λ plan. IsPair plan t)
+      PairStands plan (claimed.Pair t) = IsPair plan t
       PairStands plan answer = Unit {0}
 
       -- the lists are those of the board that was at home, which is sound, and whose log the seat now sees

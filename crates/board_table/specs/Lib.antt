@@ -3,6 +3,7 @@ pub mod Views
 pub mod Rule
 pub mod Steps
 pub mod Seen
+pub mod Notes
 pub mod Changes
 pub mod Answers
 pub mod Closing

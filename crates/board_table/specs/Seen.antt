@@ -1,5 +1,5 @@
 -- Boards and seats as contracts see them.
-use Rattle.std.specs.Prelude.{ℕ, ◌≡◌, ◌+◌, ◌-◌, Bool, true, false, cond, List, [], ◌∷◌, Option, Some, None}
+use Rattle.std.specs.Prelude.{ℕ, ◌≡◌, ◌+◌, ◌-◌, ◌^◌, ◌<◌, Bool, true, false, cond, List, [], ◌∷◌, Option, Some, None}
 use Rattle.atomic_table.specs.Seated.{TableId}
 use Rattle.board_core.specs.declared.event.Logged.{Logged}
 use Rattle.board_core.specs.declared.taken.Claim.{Claim}
@@ -80,6 +80,7 @@ module _ {F : Type 0} where
     pub record IsPlace (number spare : ℕ) (p : Place F) (slots : List (ℕ × Slot W)) : Type 0 where
       pub number_is : number ≡ p.number
       pub spare_is : spare ≡ p.spare
+      pub in_range : p.number + p.spare < 2 ^ 32
       pub no_olds : p.olds ≡ []
       pub slots_are : slots ≡ cond p.holds ((0, None) ∷ []) []
 

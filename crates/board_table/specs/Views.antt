@@ -78,6 +78,9 @@ module _ {F : Type 0} where
   joined_view (view.Seat p) (view.Note s) = view.Seat (joined p s)
   joined_view v w = v
 
+  abbrev pub spent_view : View F
+  spent_view = view.Spent
+
   -- after a look
   abbrev pub looked : Place F → Place F
   looked p = record p { olds = [] }

@@ -1,12 +1,12 @@
 //! The calls on a shared board. Each tries once for the turn, and one that wins it makes its one
 //! change to the board and gives the turn up before it returns. `close` alone keeps it.
 
-ghost use Rattle.std.specs.Prelude.{◌≡◌, IsSomeAnd, MatchOption};
+ghost use Rattle.std.specs.Prelude.{◌≡◌, ◌<◌, MatchOption};
 ghost use Rattle.board_core.specs.Board.{IsClaim};
 ghost use Rattle.board_table.specs.Seen.{IsReady, IsSameSeat};
 ghost use Rattle.board_table.specs.Changes.{HasWon, Misses, MayGoHome, done_seat};
-ghost use Rattle.board_table.specs.Answers.{IsPiece, OfferAnswers, ClaimAnswers, PairStands};
-ghost use Rattle.board_table.specs.Answers.{SettleAnswers, PutBackAnswers};
+ghost use Rattle.board_table.specs.Answers.{StandsIn, IsWithin, OfferAnswers, ClaimAnswers};
+ghost use Rattle.board_table.specs.Answers.{PairStands, SettleAnswers, PutBackAnswers};
 ghost use Rattle.board_table.specs.Closing.{CloseAnswers};
 
 use crate::answers::{Claimed, Leftover, Offered, PutBack, Settled};
@@ -45,7 +45,9 @@ impl<F: Fused> Board<F> {
     /// Holds the piece. Any other answer hands it back. Takes no memory.
     pub fn offer(&self, seat: &mut Seat<F>, piece: Piece<F::Value>) -> Offered<F::Value>
         requires ready { IsReady self.now seat.old }
-        requires piece { IsPiece F.rows F.stands seat.old.plan piece.lo piece.hi piece.value }
+        requires nonempty { piece.lo < piece.hi }
+        requires within { IsWithin F.rows seat.old.plan piece.hi }
+        requires stands { StandsIn F.stands seat.old.plan piece.lo piece.hi piece.value }
         ensures ready { IsReady self.now seat.new }
         ensures same { IsSameSeat seat.old seat.new }
         ensures answer { OfferAnswers seat.old piece result seat.new }
@@ -92,8 +94,7 @@ impl<F: Fused> Board<F> {
     ) -> Settled<F::Value>
         requires ready { IsReady self.now seat.old }
         requires is_claim { IsClaim taken seat.old.taken }
-        requires stands { IsSomeAnd seat.old.plan
-            (λ plan. F.stands plan taken.left.lo taken.right.hi value) }
+        requires stands { StandsIn F.stands seat.old.plan taken.left.lo taken.right.hi value }
         ensures ready { IsReady self.now seat.new }
         ensures same { IsSameSeat seat.old seat.new }
         ensures answer { SettleAnswers seat.old taken value result seat.new }
@@ -110,10 +111,10 @@ impl<F: Fused> Board<F> {
     pub fn put_back(&self, seat: &mut Seat<F>, taken: Taken<F::Value>) -> PutBack<F::Value>
         requires ready { IsReady self.now seat.old }
         requires is_claim { IsClaim taken seat.old.taken }
-        requires left_stands { IsSomeAnd seat.old.plan
-            (λ plan. F.stands plan taken.left.lo taken.left.hi taken.left.value) }
-        requires right_stands { IsSomeAnd seat.old.plan
-            (λ plan. F.stands plan taken.right.lo taken.right.hi taken.right.value) }
+        requires left_stands { StandsIn F.stands seat.old.plan
+            taken.left.lo taken.left.hi taken.left.value }
+        requires right_stands { StandsIn F.stands seat.old.plan
+            taken.right.lo taken.right.hi taken.right.value }
         ensures ready { IsReady self.now seat.new }
         ensures same { IsSameSeat seat.old seat.new }
         ensures answer { PutBackAnswers seat.old taken result seat.new }

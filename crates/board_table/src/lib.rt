@@ -6,12 +6,17 @@
 mod answers;
 mod board;
 mod calls;
+mod note;
 mod opening;
 mod seat;
+mod sharing;
 mod table;
+#[cfg(test)]
+mod tests;
 mod view;
 
 pub use answers::{Claimed, Leftover, Offered, PutBack, Settled};
 pub use board::Board;
+pub use note::Note;
 pub use opening::start;
 pub use seat::Seat;

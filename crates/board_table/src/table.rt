@@ -1,7 +1,7 @@
 //! The table of a board: its rule, and the kinds of step on its word.
 
 use crate::view::View;
-use atomic_table::{Play, Table, TableRule};
+use atomic_table::{Join, Play, Split, Table, TableRule};
 use board_core::Core;
 use interval_kit::Fused;
 use std::alloc::Global;
@@ -58,6 +58,50 @@ impl<F: Fused> Play<Option<Core<F::Value>>, View<F>> for Free<F> {
     ghost use Rattle.board_table.specs.Steps.{frees};
 
     ghost then = { frees };
+}
+
+/// The last number of a seat goes to a new seat.
+pub struct Share;
+
+impl<F> Split<View<F>> for Share {
+    ghost use Rattle.board_table.specs.Views.{parent_view, child_view};
+
+    ghost left = { parent_view };
+
+    ghost right = { child_view };
+}
+
+/// What a seat has seen goes to a note.
+pub struct Tell;
+
+impl<F> Split<View<F>> for Tell {
+    ghost use Rattle.board_table.specs.Views.{same_view, told_view};
+
+    ghost left = { same_view };
+
+    ghost right = { told_view };
+}
+
+/// What a note has seen comes to a seat.
+pub struct Meet;
+
+impl<F> Join<View<F>> for Meet {
+    ghost use Rattle.board_table.specs.Views.{joined_view, spent_view};
+
+    ghost both = { joined_view };
+
+    ghost spent = { spent_view };
+}
+
+/// A load of the word after a join, which shows that the logs taken in are one.
+pub struct Look<F> {
+    plan: PhantomData<F>,
+}
+
+impl<F: Fused> Play<Option<Core<F::Value>>, View<F>> for Look<F> {
+    ghost use Rattle.board_table.specs.Steps.{looks};
+
+    ghost then = { looks F.rows };
 }
 
 pub type Slot<F> = Option<Core<<F as Fused>::Value>>;
