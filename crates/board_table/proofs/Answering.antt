@@ -1,5 +1,5 @@
 -- The clauses of each call, from what the turn, the pure board and the seat's return say.
-use Rattle.std.proofs.Common.{◌≡◌, ℕ, ◌<◌, ◌≤◌, List, [], ◌∷◌, ap, sym, refl, subst, ◌∙◌, arith}
+use Rattle.std.proofs.Common.{◌≡◌, ℕ, ◌<◌, ◌≤◌, List, length, ap, sym, refl, subst, ◌∙◌, arith}
 use Rattle.std.specs.Prelude.{Option, Some, None, IsSomeAnd}
 use Rattle.interval_kit.specs.declared.piece.Piece.{Piece}
 use Rattle.board_core.specs.declared.event.Logged.{Logged}
@@ -13,7 +13,7 @@ use Rattle.board_core.specs.Board.{PlainBoard, plain, settle_entry, put_back_ent
 use Rattle.board_core.specs.Calls.{IsStep, Offers, Claims, IsLowestPair, offer, claim, settle, put_back}
 use Rattle.board_core.specs.Sound.{IsSoundFor}
 use Rattle.board_core.proofs.MeaningLemmas.{is_lowest}
-use Rattle.board_core.proofs.Keeps.{pair_stands}
+use Rattle.board_core.proofs.Keeps.{pair_stands, sound_length}
 use Rattle.board_table.specs.Seen.{SeatSeen}
 use Rattle.board_table.specs.Changes.{IsBoardOf, HasWon, MayGoHome, done_seat}
 use Rattle.board_table.specs.Answers.{StandsIn, IsWithin, OfferKept, OfferOverlaps, OfferFull, ClaimPair, ClaimRefused, Ends, IsPair, Closes}
@@ -133,6 +133,10 @@ module _ {F W : Type 0} (rows : F → ℕ) (stands : F → ℕ → ℕ → W →
       subst (λ (r : ℕ). IsSoundFor (stands plan) (plain r old.room b.held b.claims b.log)) fits.rows_are
       (subst (λ (m : ℕ). IsSoundFor (stands plan) (plain b.rows m b.held b.claims b.log)) fits.room_is fits.sound)
 
+  room_kept : (plan : Option F) → IsBoardOf rows stands plan old.room b → length b.log ≤ old.room
+  room_kept None fits = absurd fits
+  room_kept (Some plan) fits = let short = sound_length b fits.sound.sound in let same = fits.room_is in omega arith
+
   pub closes : (held : List (Piece W)) (claims : List Claim) (log : List Logged) → held ≡ b.held → claims ≡ b.claims → log ≡ b.log
       → Closes rows stands old mid held claims log
   closes held claims log one two three =
@@ -144,4 +148,5 @@ module _ {F W : Type 0} (rows : F → ℕ) (stands : F → ℕ → ℕ → W →
         mine = won.mine;
         taken = won.taken;
         board = board_of_plan old.plan won.of_seat;
+        length = room_kept old.plan won.of_seat;
       })))

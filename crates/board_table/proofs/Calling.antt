@@ -1,5 +1,5 @@
 -- What a call that won the turn makes of its seat, and what it answers.
-use Rattle.std.proofs.Common.{◌≡◌, ℕ, ◌+◌, ◌<◌, ◌≤◌, ◌==◌, inl, inr, Bool, true, false, cond, List, [], ◌∷◌, ◌++◌, length, ap, sym, refl, subst, ◌∙◌, eqb-true, arith}
+use Rattle.std.proofs.Common.{◌≡◌, ℕ, ◌≤◌, ◌==◌, inl, inr, true, false, cond, List, [], ◌∷◌, ◌++◌, ap, sym, refl, subst, ◌∙◌, eqb-true, arith}
 use Rattle.std.specs.Prelude.{Option, Some, None, IsTrue, IsSomeAnd}
 use Rattle.std.specs.List.{list_any}
 use Rattle.interval_kit.specs.declared.piece.Piece.{Piece}
@@ -11,20 +11,18 @@ use Rattle.board_core.specs.declared.taken.CoreOffered.TheVariants as offered
 use Rattle.board_core.specs.declared.taken.CoreClaimed.{CoreClaimed}
 use Rattle.board_core.specs.declared.taken.CoreClaimed.TheVariants as claimed
 use Rattle.board_core.specs.Ordered.{Each}
-use Rattle.board_core.specs.Board.{PlainBoard, plain, offer_entry, claim_entry, settle_entry, put_back_entry, claim_of, put_claim, without_claim, is_same, IsClaim, with_offer, with_claim, with_settle, with_put_back}
-use Rattle.board_core.specs.Calls.{Call, IsStep, Offers, Claims, IsLowestPair, AnswersPlainly, offer, claim, settle, put_back}
+use Rattle.board_core.specs.Board.{PlainBoard, offer_entry, claim_entry, settle_entry, put_back_entry, claim_of, put_claim, without_claim, is_same, IsClaim}
+use Rattle.board_core.specs.Calls.{Call, IsStep, Offers, Claims, IsLowestPair, offer, claim, settle, put_back}
 use Rattle.board_core.specs.Replay.{Bare, replay, IsLegal, entries_of, claims_by, claims_of}
-use Rattle.board_core.specs.Sound.{bare, blank, blank_pair, blank_offered, blank_claimed, IsSound, IsSoundFor, Brings}
+use Rattle.board_core.specs.Sound.{bare, blank, blank_offered, blank_claimed, IsSound, Brings}
 use Rattle.board_core.proofs.PieceLemmas.{each_open, open_put}
 use Rattle.board_core.proofs.LogLemmas.{legal_length, open_by, by_put_own, by_without_own}
 use Rattle.board_core.proofs.BareLemmas.{offers_bare, claims_bare}
 use Rattle.board_core.proofs.MeaningLemmas.{claims_plainly}
-use Rattle.board_core.proofs.Keeps.{step_sound, step_keeps, pair_stands, sound_claims}
-use Rattle.board_table.specs.Views.{StartsWith}
-use Rattle.board_table.specs.Rule.{IsBoardFor}
-use Rattle.board_table.specs.Seen.{SeatSeen, IsSameSeat}
+use Rattle.board_core.proofs.Keeps.{step_sound, step_keeps, sound_claims}
+use Rattle.board_table.specs.Seen.{SeatSeen}
 use Rattle.board_table.specs.Changes.{IsBoardOf, HasWon, MayGoHome, Grows, won_seat, done_seat}
-use Rattle.board_table.specs.Answers.{StandsIn, IsWithin, replay_at, Wins, Adds, Leaves, OfferKept, OfferOverlaps, OfferFull, ClaimPair, ClaimRefused, Ends, IsPair, Closes}
+use Rattle.board_table.specs.Answers.{StandsIn, IsWithin, Wins, Adds, Leaves, OfferKept, OfferOverlaps, OfferFull, ClaimPair, ClaimRefused, Ends}
 use Rattle.board_table.proofs.Beginnings.{starts_trans, grows_starts, entries_own}
 
 -- the claims of one number are its own

@@ -1,24 +1,21 @@
 -- What a call's steps make of its seat: it tries for the turn, has the board, and gives the turn up.
-use Rattle.std.proofs.Common.{◌≡◌, ◌≢◌, ℕ, zero, suc, ◌+◌, ◌-◌, ◌<◌, ◌≤◌, ◌==◌, ⊎_elim, Bool, true, false, cond, List, [], ◌∷◌, ◌++◌, length, set, ap, sym, refl, subst, ◌∙◌, arith}
-use Rattle.std.specs.Prelude.{Option, Some, None, MatchOption}
-use mathlib.Core.Option.{some, none, some-injective, some-ne-none}
+use Rattle.std.proofs.Common.{◌≡◌, ◌≢◌, ℕ, zero, suc, ◌≤◌, ◌==◌, ⊎_elim, Bool, true, false, cond, List, [], ◌∷◌, ap, sym, refl, subst, ◌∙◌, arith}
+use Rattle.std.specs.Prelude.{Some, None, MatchOption}
+use mathlib.Core.Option.{some, some-injective, some-ne-none}
 use lib.ListN.{get_elem?}
 use prog.Atomic.{either}
 use Rattle.atomic_table.specs.Seated.{TableId}
 use Rattle.atomic_table.specs.Table.{Step, Allows, rest, opening}
-use Rattle.board_core.specs.declared.event.Logged.{Logged}
 use Rattle.board_core.specs.Board.{PlainBoard, empty}
-use Rattle.board_core.specs.Sound.{IsSoundFor}
 use Rattle.board_core.proofs.Keeps.{sound_empty}
-use Rattle.board_table.specs.declared.view.Terms.{Terms}
 use Rattle.board_table.specs.declared.view.Place.{Place}
 use Rattle.board_table.specs.declared.view.View.{View}
 use Rattle.board_table.specs.declared.view.View.TheVariants as view
 use Rattle.board_table.specs.declared.table.Opening.{Opening}
-use Rattle.board_table.specs.Views.{StartsWith, winner, loser, done}
-use Rattle.board_table.specs.Rule.{Slot, TurnTable, terms_of, first_view, IsAt, PlaceFits, ViewFits, IsBoardFor, BoardRule}
-use Rattle.board_table.specs.Steps.{Holder, WinsTurn, tried, tries, freed, frees}
-use Rattle.board_table.specs.Seen.{SeatSeen, place_seen, seat_seen, IsPlace, IsSeat, first_seat}
+use Rattle.board_table.specs.Views.{winner, done}
+use Rattle.board_table.specs.Rule.{Slot, terms_of, first_view, ViewFits, BoardRule}
+use Rattle.board_table.specs.Steps.{Holder, WinsTurn, tries, frees}
+use Rattle.board_table.specs.Seen.{SeatSeen, seat_seen, IsPlace, IsSeat}
 use Rattle.board_table.specs.Changes.{Misses, HasWon, MayGoHome, done_seat}
 use Rattle.board_table.proofs.Beginnings.{starts_refl}
 use Rattle.board_table.proofs.Turns.{never, try_keeps, free_keeps}

@@ -1,16 +1,14 @@
 -- What splits, a join and a look make of seats and notes.
-use Rattle.std.proofs.Common.{◌≡◌, ◌≢◌, ℕ, ◌+◌, ◌-◌, ◌^◌, ◌<◌, ◌≤◌, Bool, true, false, cond, List, [], ◌∷◌, ap, sym, refl, subst, ◌∙◌, arith}
-use Rattle.std.specs.Prelude.{Option, Some, None}
+use Rattle.std.proofs.Common.{◌≡◌, ℕ, ◌+◌, ◌^◌, ◌<◌, ◌≤◌, false, cond, List, [], ◌∷◌, ap, sym, refl, subst, ◌∙◌, arith}
+use Rattle.std.specs.Prelude.{None}
 use Rattle.atomic_table.specs.Seated.{TableId}
 use Rattle.atomic_table.specs.Table.{Step, Allows, Splits, Joins}
-use Rattle.board_core.specs.declared.event.Logged.{Logged}
 use Rattle.board_core.proofs.LogLemmas.{legal_length}
 use Rattle.board_table.specs.declared.view.Place.{Place}
-use Rattle.board_table.specs.declared.view.Sheet.{Sheet}
 use Rattle.board_table.specs.declared.view.View.{View}
 use Rattle.board_table.specs.declared.view.View.TheVariants as view
 use Rattle.board_table.specs.declared.table.Opening.{Opening}
-use Rattle.board_table.specs.Views.{StartsWith, longer, parent_view, child_view, same_view, told_view, joined, joined_view, spent_view, looked}
+use Rattle.board_table.specs.Views.{longer, parent_view, child_view, same_view, told_view, joined, joined_view, spent_view}
 use Rattle.board_table.specs.Rule.{Slot, BoardRule}
 use Rattle.board_table.specs.Steps.{Holder, Looks, looks}
 use Rattle.board_table.specs.Seen.{SeatSeen, seat_seen, IsPlace, IsSeat}

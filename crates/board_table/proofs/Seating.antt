@@ -1,16 +1,15 @@
 -- Splits, joins and looks keep the Board rule.
-use Rattle.std.proofs.Common.{◌≡◌, ◌≢◌, ℕ, zero, suc, ◌+◌, ◌-◌, ◌<◌, ◌≤◌, ◌==◌, ⊎_elim, Bool, true, false, cond, nat_le, List, [], ◌∷◌, ◌++◌, length, slice_index, set, ap, sym, refl, subst, ◌∙◌, length-set, length-append, get_or-set_same, eq-eqb, ne_eqb, arith}
-use Rattle.std.specs.Prelude.{Option, Some, None, filter}
+use Rattle.std.proofs.Common.{◌≡◌, ◌≢◌, ℕ, ◌+◌, ◌≤◌, ◌==◌, ⊎_elim, Bool, true, false, cond, nat_le, List, [], ◌∷◌, ◌++◌, length, slice_index, set, ap, sym, refl, subst, ◌∙◌, length-set, length-append, get_or-set_same, eq-eqb, ne_eqb, arith}
+use Rattle.std.specs.Prelude.{Option, filter}
 use Rattle.std.proofs.lemmas.Bool.Decides.{nat_tests}
 use Rattle.std.proofs.lemmas.List.Elements.{filter-append}
-use mathlib.Core.Option.{some, none, some-injective}
+use mathlib.Core.Option.{some}
 use lib.ListN.{get_elem?}
-use Rattle.atomic_table.specs.Table.{Act, keeps, Step, Allows, Splits, Joins}
+use Rattle.atomic_table.specs.Table.{keeps, Step, Allows, Splits, Joins}
 use Rattle.atomic_table.proofs.Lists.{at_set, set_else, at_longer}
 use Rattle.board_core.specs.declared.event.Logged.{Logged}
-use Rattle.board_core.specs.Ordered.{Each}
 use Rattle.board_core.specs.Board.{empty}
-use Rattle.board_core.specs.Replay.{IsLegal, entries_of, claims_of}
+use Rattle.board_core.specs.Replay.{IsLegal, entries_of}
 use Rattle.board_core.proofs.OrderedLemmas.{each_map}
 use Rattle.board_core.proofs.LogLemmas.{legal_start}
 use Rattle.board_table.specs.declared.view.Terms.{Terms}
@@ -21,9 +20,9 @@ use Rattle.board_table.specs.declared.view.View.TheVariants as view
 use Rattle.board_table.specs.declared.table.Opening.{Opening}
 use Rattle.board_table.specs.Views.{StartsWith, longer, parent, child, sheet, joined, looked}
 use Rattle.board_table.specs.Rule.{Slot, TurnTable, terms_of, IsAt, PlaceFits, SheetFits, ViewFits, BoardRule}
-use Rattle.board_table.specs.Steps.{Holder, Looks, looks}
-use Rattle.board_table.proofs.Beginnings.{is_nothing, at_end, starts_length, entries_between, starts_both}
-use Rattle.board_table.proofs.Turns.{never, holds_of, turn_moved, not_there, each_set, quiet}
+use Rattle.board_table.specs.Steps.{Looks, looks}
+use Rattle.board_table.proofs.Beginnings.{is_nothing, at_end, entries_between, starts_both}
+use Rattle.board_table.proofs.Turns.{never, turn_moved, not_there, each_set, quiet}
 
 -- a number with no entry in a log has none in a beginning of it
 none_seen : (n : ℕ) (log seen : List Logged) → StartsWith log seen → entries_of n log ≡ [] → entries_of n seen ≡ []
@@ -82,7 +81,7 @@ module _ {F W : Type 0} (rows : F → ℕ) (stands : F → ℕ → ℕ → W →
       each = λ j w here. ⊎_elim
           (λ e. each_set rows stands key t id owner rule.holder rule.log left left_fits others j w e)
           (λ e. subst (λ (k : ℕ). ViewFits terms owner rule.holder rule.log k w) (sym (e.0 ∙ length-set t.views id left))
-              (subst (λ (x : View F). ViewFits terms owner rule.holder rule.log (length t.views) x) e.1 right_fits))
+          (subst (λ (x : View F). ViewFits terms owner rule.holder rule.log (length t.views) x) e.1 right_fits))
           (at_end (set t.views id left) right w j here);
     }
 
@@ -170,7 +169,7 @@ module _ {F W : Type 0} (rows : F → ℕ) (stands : F → ℕ → ℕ → W →
       mine = own.mine;
       mine_seen = longer_is (λ l. entries_of p.number l ≡ p.mine) p.seen s.seen own.mine_seen
           (λ more. entries_between p.number rule.log s.seen p.seen note.seen (starts_both rule.log s.seen p.seen note.seen own.seen more)
-              (own.mine ∙ sym own.mine_seen)
+          (own.mine ∙ sym own.mine_seen)
           ∙ own.mine_seen);
       taken = own.taken;
       turn = λ holds. absurd (never (sym holds ∙ idle));
@@ -184,7 +183,7 @@ module _ {F W : Type 0} (rows : F → ℕ) (stands : F → ℕ → ℕ → W →
       met_each j w here = ⊎_elim
           (λ e. subst (λ (x : View F). ViewFits terms rule.owner rule.holder rule.log j x) e.1 tt)
           (λ e. each_set rows stands key t id rule.owner rule.holder rule.log (view.Seat (joined p s)) (joined_fits s (rule.each other (view.Note s) there))
-              (λ k x differ stood. rule.each k x stood) j w e.1)
+          (λ k x differ stood. rule.each k x stood) j w e.1)
           (at_set (set t.views id (view.Seat (joined p s))) other j view.Spent w here)
 
       met : BoardRule rows stands key (record { words = t.words; homes = t.homes; views = views_met })

@@ -1,10 +1,10 @@
 -- Each step on the turn keeps the Board rule: a try that wins or misses, and the step that gives the turn up.
-use Rattle.std.proofs.Common.{◌≡◌, ◌≢◌, ℕ, zero, suc, ◌+◌, ◌<◌, ◌≤◌, ◌==◌, ◌⊎◌, inl, inr, ⊎_elim, Bool, true, false, List, [], ◌∷◌, ◌++◌, length, slice_index, set, ap, sym, refl, subst, ◌∙◌, length-set, get_or-set_same, arith}
+use Rattle.std.proofs.Common.{◌≡◌, ◌≢◌, ℕ, ◌+◌, ◌≤◌, ◌==◌, inl, inr, ⊎_elim, Bool, true, false, List, [], ◌∷◌, length, slice_index, set, ap, sym, refl, subst, ◌∙◌, length-set, get_or-set_same, arith}
 use Rattle.std.specs.Prelude.{Option, Some, None}
 use mathlib.Core.Option.{some, none, some-injective}
 use lib.ListN.{get_elem?}
 use prog.Atomic.{either}
-use Rattle.atomic_table.specs.Table.{Act, keeps, takes, gives, Me, Step, Allows, Valid, stepped, opening, carried_after}
+use Rattle.atomic_table.specs.Table.{Act, keeps, takes, gives, Step, Allows, Valid, stepped, carried_after}
 use Rattle.atomic_table.proofs.Lists.{at_set, set_here, set_else}
 use Rattle.board_core.specs.declared.event.Logged.{Logged}
 use Rattle.board_core.specs.Ordered.{Each}
@@ -13,13 +13,12 @@ use Rattle.board_core.specs.Replay.{IsLegal, entries_of, claims_of}
 use Rattle.board_core.proofs.OrderedLemmas.{each_map}
 use Rattle.board_table.specs.declared.view.Terms.{Terms}
 use Rattle.board_table.specs.declared.view.Place.{Place}
-use Rattle.board_table.specs.declared.view.Sheet.{Sheet}
 use Rattle.board_table.specs.declared.view.View.{View}
 use Rattle.board_table.specs.declared.view.View.TheVariants as view
 use Rattle.board_table.specs.declared.table.Opening.{Opening}
 use Rattle.board_table.specs.Views.{StartsWith, winner, loser, done}
 use Rattle.board_table.specs.Rule.{Slot, TurnTable, terms_of, IsAt, PlaceFits, ViewFits, IsBoardFor, IsFree, IsHeld, TurnIs, BoardRule}
-use Rattle.board_table.specs.Steps.{Holder, Finds, WinsTurn, tried, tries, frees}
+use Rattle.board_table.specs.Steps.{Finds, tries, frees}
 use Rattle.board_table.specs.Changes.{Grows}
 use Rattle.board_table.proofs.Beginnings.{at_below, starts_refl, starts_from, starts_trans, starts_length, grows_starts, grows_entries, grows_claims}
 

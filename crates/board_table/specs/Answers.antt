@@ -52,7 +52,8 @@ module _ {F : Type 0} where
     pub taken : claims_of new.number new.seen ≡ new.taken
 
   -- the call made this entry and no other
-  pub record Adds (old : SeatSeen F) (found : List Logged) (e : Logged) (new : SeatSeen F) : Type 0 where
+  pub record Adds (old : SeatSeen F) (found : List Logged) (e : Logged)
+      (new : SeatSeen F) : Type 0 where
     pub seen : new.seen ≡ found ++ e ∷ []
     pub mine : new.mine ≡ old.mine ++ e ∷ []
 
@@ -63,7 +64,8 @@ module _ {F : Type 0} where
     pub taken : new.taken ≡ old.taken
 
   -- the call won the turn, and a claim on the log then seen gets this answer
-  pub record ClaimRefused (old : SeatSeen F) (answer : CoreClaimed (Unit {0})) (new : SeatSeen F) : Type 0 where
+  pub record ClaimRefused (old : SeatSeen F) (answer : CoreClaimed (Unit {0}))
+      (new : SeatSeen F) : Type 0 where
     pub found : List Logged
     pub wins : Wins old found new
     pub step : Claims (replay_at new new.seen) new.number answer (replay_at new new.seen)
@@ -73,7 +75,8 @@ module _ {F : Type 0} where
     pub record OfferKept (old : SeatSeen F) (p : Piece W) (new : SeatSeen F) : Type 0 where
       pub found : List Logged
       pub wins : Wins old found new
-      pub step : Offers (replay_at new found) new.number (blank p) on_offer.Kept (replay_at new new.seen)
+      pub step : Offers (replay_at new found) new.number (blank p) on_offer.Kept
+          (replay_at new new.seen)
       pub adds : Adds old found (offer_entry new.number p) new
       pub taken : new.taken ≡ old.taken
 
@@ -81,14 +84,16 @@ module _ {F : Type 0} where
       pub handed_back : q ≡ p
       pub found : List Logged
       pub wins : Wins old found new
-      pub step : Offers (replay_at new found) new.number (blank p) (on_offer.Overlaps (blank p)) (replay_at new new.seen)
+      pub step : Offers (replay_at new found) new.number (blank p)
+          (on_offer.Overlaps (blank p)) (replay_at new new.seen)
       pub leaves : Leaves old found new
 
     pub record OfferFull (old : SeatSeen F) (p q : Piece W) (new : SeatSeen F) : Type 0 where
       pub handed_back : q ≡ p
       pub found : List Logged
       pub wins : Wins old found new
-      pub step : Offers (replay_at new found) new.number (blank p) (on_offer.Full (blank p)) (replay_at new new.seen)
+      pub step : Offers (replay_at new found) new.number (blank p)
+          (on_offer.Full (blank p)) (replay_at new new.seen)
       pub leaves : Leaves old found new
 
     abbrev pub OfferAnswers : SeatSeen F → Piece W → Offered W → SeatSeen F → Type 0
@@ -102,7 +107,8 @@ module _ {F : Type 0} where
       pub found : List Logged
       pub wins : Wins old found new
       pub own : t.who ≡ new.number
-      pub step : Claims (replay_at new found) new.number (on_claim.Pair (blank_pair t)) (replay_at new new.seen)
+      pub step : Claims (replay_at new found) new.number (on_claim.Pair (blank_pair t))
+          (replay_at new new.seen)
       pub adds : Adds old found (claim_entry new.number t) new
       pub taken : new.taken ≡ put_claim (claim_of t) old.taken
       pub is_claim : IsClaim t new.taken
@@ -143,10 +149,14 @@ module _ {F : Type 0} where
       PairStands plan (claimed.Pair t) = IsPair plan t
       PairStands plan answer = Unit {0}
 
-      -- the lists are those of the board that was at home, which is sound, and whose log the seat now sees
-      pub record Closes (old new : SeatSeen F) (held : List (Piece W)) (claims : List Claim) (log : List Logged) : Type 0 where
+      -- the lists are those of the board that was at home, which is sound, and whose log the seat
+      -- now sees
+      pub record Closes (old new : SeatSeen F) (held : List (Piece W)) (claims : List Claim)
+          (log : List Logged) : Type 0 where
         pub seat : new ≡ won_seat old log
         pub later : StartsWith log old.seen
         pub mine : entries_of old.number log ≡ old.mine
         pub taken : claims_of old.number log ≡ old.taken
-        pub board : IsSomeAnd old.plan (λ plan. IsSoundFor (stands plan) (plain (rows plan) old.room held claims log))
+        pub board : IsSomeAnd old.plan
+            (λ plan. IsSoundFor (stands plan) (plain (rows plan) old.room held claims log))
+        pub length : length log ≤ old.room

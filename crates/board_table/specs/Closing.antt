@@ -8,5 +8,6 @@ use Rattle.board_table.specs.Answers.{Closes}
 
 module _ {F W : Type 0} (rows : F → ℕ) (stands : F → ℕ → ℕ → W → Type 0) where
   abbrev pub CloseAnswers : SeatSeen F → Leftover F W → Type 0
-  CloseAnswers old (Left seat held claimed log) = Closes rows stands old seat held.items claimed.items log.items
+  CloseAnswers old (Left seat held claimed log) =
+      Closes rows stands old seat held.items claimed.items log.items
   CloseAnswers old (Nothing seat) = Misses old seat

@@ -31,7 +31,8 @@ module _ {F : Type 0} where
         callers = s.terms.callers;
         seen = s.seen;
       }
-  note_seen rows table v = record { table = table; plan = None; rows = 0; room = 0; callers = 0; seen = [] }
+  note_seen rows table v =
+      record { table = table; plan = None; rows = 0; room = 0; callers = 0; seen = [] }
 
   module _ {W : Type 0} where
     abbrev pub IsNoteWith : View F → List (ℕ × Slot W) → Type 0

@@ -1,5 +1,5 @@
 -- The Board rule: what holds of the table between any two steps, whoever makes them.
-use Rattle.std.specs.Prelude.{ℕ, ◌≡◌, ◌≢◌, ◌+◌, ◌-◌, ◌<◌, ◌≤◌, Bool, true, false, List, [], length, slice_index, Option, Some, None}
+use Rattle.std.specs.Prelude.{ℕ, ◌≡◌, ◌+◌, ◌-◌, ◌<◌, ◌≤◌, true, List, [], length, slice_index, Option, Some, None}
 use mathlib.Core.Option.{some, none}
 use lib.ListN.{get_elem?}
 use Rattle.atomic_table.specs.Table.{State}
@@ -37,7 +37,7 @@ module _ {F : Type 0} where
     abbrev pub IsAt : TurnTable F W → ℕ → View F → Type 0
     IsAt t i v = get_elem? t.views i ≡ some v
 
-  -- what a seat at place i knows of the history. Of each caller's number, `owner` gives the place of
+  -- what a seat at place i knows of the history. Of a caller's number, `owner` gives the place of
   -- the seat that has it or may give it; `holder` is the place of the seat that holds the turn.
   pub record PlaceFits (terms : Terms F) (owner : ℕ → ℕ) (holder : Option ℕ) (log : List Logged)
       (i : ℕ) (p : Place F) : Type 0 where
@@ -102,4 +102,5 @@ module _ {F : Type 0} where
       pub owner : ℕ → ℕ
       pub holder : Option ℕ
       pub turn : TurnIs (terms_of opening) log t holder
-      pub each : (i : ℕ) (v : View F) → IsAt t i v → ViewFits (terms_of opening) owner holder log i v
+      pub each : (i : ℕ) (v : View F) → IsAt t i v
+          → ViewFits (terms_of opening) owner holder log i v

@@ -1,5 +1,5 @@
 -- Boards and seats as contracts see them.
-use Rattle.std.specs.Prelude.{ℕ, ◌≡◌, ◌+◌, ◌-◌, ◌^◌, ◌<◌, Bool, true, false, cond, List, [], ◌∷◌, Option, Some, None}
+use Rattle.std.specs.Prelude.{ℕ, ◌≡◌, ◌+◌, ◌-◌, ◌^◌, ◌<◌, Bool, false, cond, List, [], ◌∷◌, Option, Some, None}
 use Rattle.atomic_table.specs.Seated.{TableId}
 use Rattle.board_core.specs.declared.event.Logged.{Logged}
 use Rattle.board_core.specs.declared.taken.Claim.{Claim}
@@ -76,7 +76,7 @@ module _ {F : Type 0} where
   seat_seen rows table v = no_seat table
 
   module _ {W : Type 0} where
-    -- the plain fields of a seat agree with what it knows, and it has the slot while it has the turn
+    -- the plain fields of a seat agree with what it knows; while it has the turn it has the slot
     pub record IsPlace (number spare : ℕ) (p : Place F) (slots : List (ℕ × Slot W)) : Type 0 where
       pub number_is : number ≡ p.number
       pub spare_is : spare ≡ p.spare

@@ -1,7 +1,6 @@
 -- What one step on the turn tells its caller.
-use Rattle.std.specs.Prelude.{ℕ, ◌≡◌, ◌⊎◌, List, [], ◌∷◌, Some, None}
+use Rattle.std.specs.Prelude.{ℕ, ◌≡◌, ◌⊎◌, List, [], ◌∷◌, Some}
 use Rattle.atomic_table.specs.Table.{Me, Step}
-use Rattle.board_core.specs.declared.event.Logged.{Logged}
 use Rattle.board_core.specs.Ordered.{Each}
 use Rattle.board_core.specs.Board.{PlainBoard}
 use Rattle.board_core.specs.Replay.{IsLegal, entries_of, claims_of}

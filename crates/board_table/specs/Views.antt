@@ -43,7 +43,12 @@ module _ {F : Type 0} where
   -- after the step that gave it up, with the log of the board that went home
   abbrev pub done : Place F → List Logged → Place F
   done p log =
-      record p { seen = log; mine = entries_of p.number log; taken = claims_of p.number log; holds = false }
+      record p {
+        seen = log;
+        mine = entries_of p.number log;
+        taken = claims_of p.number log;
+        holds = false;
+      }
 
   abbrev pub sheet : Place F → Sheet F
   sheet p = record { terms = p.terms; seen = p.seen }

@@ -12,8 +12,8 @@ use interval_kit::Fused;
 use std::alloc::{AllocError, Global};
 use std::snapshot::Snapshot;
 
-/// An empty board of the plan's rows for `callers` seats, with room for `room` entries, and the seat
-/// of number 0, which may give the others. It takes the memory of all later calls.
+/// An empty board of the plan's rows for `callers` seats, with room for `room` entries, and the
+/// seat of number 0, which may give the others. It takes the memory of all later calls.
 pub fn start<F: Fused>(
     alloc: Global,
     plan: &F,

@@ -1,6 +1,5 @@
-use Rattle.std.proofs.Common.{◌≡◌, ap, sym, ◌∙◌, arith}
-use Rattle.std.specs.Prelude.{Some}
-use Rattle.board_core.specs.Board.{PlainBoard, empty}
+use Rattle.std.proofs.Common.{ap, sym, ◌∙◌, arith}
+use Rattle.board_core.specs.Board.{empty}
 use Rattle.board_table.proofs.Holding.{starts_fit}
 use Rattle.board_table.proofs.opening.start.Goals as goal
 

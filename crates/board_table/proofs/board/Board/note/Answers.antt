@@ -1,4 +1,4 @@
-use Rattle.std.proofs.Common.{◌≡◌, ap, sym, ◌∙◌, arith}
+use Rattle.std.proofs.Common.{ap, ◌∙◌, arith}
 use Rattle.board_table.specs.Seen.{SeatSeen}
 use Rattle.board_table.proofs.Holding.{own_table}
 use Rattle.board_table.proofs.Meeting.{tell_allowed}

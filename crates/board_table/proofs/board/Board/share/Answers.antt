@@ -1,4 +1,4 @@
-use Rattle.std.proofs.Common.{◌≡◌, ◌≤◌, ap, sym, subst, ◌∙◌, arith}
+use Rattle.std.proofs.Common.{◌≤◌, ap, sym, subst, ◌∙◌, arith}
 use Rattle.board_table.specs.Seen.{SeatSeen}
 use Rattle.board_table.proofs.Holding.{own_table}
 use Rattle.board_table.proofs.Meeting.{share_allowed, numbers_fit}
