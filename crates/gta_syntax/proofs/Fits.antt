@@ -4,16 +4,16 @@ use Rattle.std.specs.Prelude.{ℤ, pos, neg_ℤ, nat_abs}
 use Rattle.std.specs.List.{list_all}
 use Rattle.gta_text.specs.declared.numbers.TheConstants.{NUMBER_BOUND}
 use Rattle.gta_text.specs.Tokens.{is_text_byte}
-use Rattle.gta_syntax.specs.declared.parts.ColumnItem.{ColumnItem}
-use Rattle.gta_syntax.specs.declared.parts.TermPart.{TermPart}
-use Rattle.gta_syntax.specs.declared.parts.AtomPart.{AtomPart}
-use Rattle.gta_syntax.specs.declared.parts.Check.{Check}
-use Rattle.gta_syntax.specs.declared.parts.Cmp.{Cmp}
-use Rattle.gta_syntax.specs.declared.parts.GoalPart.{GoalPart}
+use Rattle.gta_spec.specs.declared.parts.ColumnItem.{ColumnItem}
+use Rattle.gta_spec.specs.declared.parts.TermPart.{TermPart}
+use Rattle.gta_spec.specs.declared.parts.AtomPart.{AtomPart}
+use Rattle.gta_spec.specs.declared.parts.Check.{Check}
+use Rattle.gta_spec.specs.declared.parts.Cmp.{Cmp}
+use Rattle.gta_spec.specs.declared.parts.GoalPart.{GoalPart}
 use Rattle.gta_syntax.specs.Symbols.{Symbol, Word, Digits, Text, Sign, Stray}
-use Rattle.gta_syntax.specs.Parts.{CaseTree, PickTree, TestTree, KindTree}
+use Rattle.gta_spec.specs.Parts.{CaseTree, PickTree, TestTree, KindTree}
 use Rattle.gta_syntax.specs.Grammar.{IsDigits, IsText, IsName, IsNames, IsNum, IsItem, IsCmp, IsAtom, IsAnd, IsIf, IsTerm, IsFirstTerm, IsNextTerm, IsCase, IsNextCase, IsPick, IsNextPick, IsCheck, IsTest, IsEnd, IsGoal, IsLine, Many, none, some, Listed, listed, behind}
-use Rattle.gta_syntax.specs.WellFormed.{FitsName, FitsNum, EachFits, SomeFit, FitsItem, FitsAtom, FitsTerm, FitsCase, FitsPick, FitsCheck, FitsTest, FitsGoal, FitsKind}
+use Rattle.gta_spec.specs.WellFormed.{FitsName, FitsNum, EachFits, SomeFit, FitsItem, FitsAtom, FitsTerm, FitsCase, FitsPick, FitsCheck, FitsTest, FitsGoal, FitsKind}
 
 abbrev pub GoodSymbol : Symbol → Type 0
 GoodSymbol (Word x) = Unit {0}

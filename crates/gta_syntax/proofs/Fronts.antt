@@ -3,11 +3,11 @@ use Rattle.std.proofs.Common.{◌≡◌, ℕ, suc, Bool, true, false, List, [], 
 use Rattle.std.proofs.lemmas.List.{append-nil}
 use Rattle.std.specs.Prelude.{ℤ, pos, negsuc, Option, Some, None, codes, decimal, Result, Ok, Err, OnOk}
 use Rattle.std.specs.Fmt.{signed_decimal}
-use Rattle.gta_syntax.specs.declared.parts.ColumnItem.{ColumnItem}
-use Rattle.gta_syntax.specs.declared.parts.TermPart.{TermPart}
-use Rattle.gta_syntax.specs.declared.parts.AtomPart.{AtomPart}
-use Rattle.gta_syntax.specs.declared.parts.AtomPart.TheVariants.{Label, Column}
-use Rattle.gta_syntax.specs.Parts.{CaseTree, PickTree, Fold, Table}
+use Rattle.gta_spec.specs.declared.parts.ColumnItem.{ColumnItem}
+use Rattle.gta_spec.specs.declared.parts.TermPart.{TermPart}
+use Rattle.gta_spec.specs.declared.parts.AtomPart.{AtomPart}
+use Rattle.gta_spec.specs.declared.parts.AtomPart.TheVariants.{Label, Column}
+use Rattle.gta_spec.specs.Parts.{CaseTree, PickTree, Fold, Table}
 use Rattle.gta_syntax.specs.Symbols.{Word}
 use Rattle.gta_syntax.specs.Canonical.{Piece, spaced, glued, piece_text, line_text, fronts, name_front, names_front, num_front, header_front, item_front, atom_front, and_front, if_front, quantity_front, first_sign_front, first_term_front, next_term_front, form_front, case_front, next_case_front, cases_front, pick_front, next_pick_front, picks_front, test_front, kind_front}
 

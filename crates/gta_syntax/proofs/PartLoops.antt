@@ -5,7 +5,7 @@ use Rattle.std.specs.Prelude.{Some, None, Result, Ok, Err}
 use Rattle.gta_text.specs.Text.{Numbered}
 use Rattle.gta_syntax.specs.declared.fault.SpecFault.{SpecFault}
 use Rattle.gta_syntax.specs.declared.fault.SpecFault.TheVariants.{Byte, Version, Grammar, Number, NoRows, Memory}
-use Rattle.gta_syntax.specs.Parts.{PartTree}
+use Rattle.gta_spec.specs.Parts.{PartTree}
 use Rattle.gta_syntax.specs.Symbols.{symbols}
 use Rattle.gta_syntax.specs.Rules.{part_at}
 use Rattle.gta_syntax.specs.SpecText.{has_past}

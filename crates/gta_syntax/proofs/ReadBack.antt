@@ -11,10 +11,10 @@ use Rattle.gta_text.specs.declared.token.Token.{Token}
 use Rattle.gta_text.specs.Tokens.{tokens_from, token_at}
 use Rattle.gta_text.specs.Text.{raw_lines, without_last, content, is_plain, first_bad, is_rows, Numbered, Found, BadByte, line_if, with_lines, lines_from, read_lines}
 use Rattle.gta_syntax.specs.Symbols.{Symbol, Word, Digits, Text, Sign, Stray, symbol_of, symbols}
-use Rattle.gta_syntax.specs.Parts.{KindTree, Columns, Labels, Measure, Table, Times, Generate, Test, Aggregate, PartTree, SpecTree}
+use Rattle.gta_spec.specs.Parts.{KindTree, Columns, Labels, Measure, Table, Times, Generate, Test, Aggregate, PartTree, SpecTree}
 use Rattle.gta_syntax.specs.Grammar.{IsPart}
 use Rattle.gta_syntax.specs.SpecText.{is_version, is_past, has_past, AreParts, none, some, SpecText}
-use Rattle.gta_syntax.specs.WellFormed.{FitsKind, FitParts, IsWellFormed}
+use Rattle.gta_spec.specs.WellFormed.{FitsKind, FitParts, IsWellFormed}
 use Rattle.gta_syntax.specs.Canonical.{Piece, glued, line_text, kind_front, part_text, canonical, renumbered}
 use Rattle.gta_syntax.proofs.WellRead.{symbols_at}
 use Rattle.gta_syntax.proofs.Lexed.{Writable, AreWritable, lexed, is_print, prints}

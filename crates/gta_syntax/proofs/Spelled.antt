@@ -4,20 +4,20 @@ use Rattle.std.specs.Prelude.{ℤ, pos, negsuc, Option, Some, None, codes}
 use Rattle.shape_gen.specs.declared.shape.Shape.{Shape}
 use Rattle.shape_gen.specs.declared.shape.Shape.TheVariants as shapes
 use Rattle.gta_text.specs.Names.{is_word, is_reserved}
-use Rattle.gta_syntax.specs.declared.parts.ColumnItem.{ColumnItem}
-use Rattle.gta_syntax.specs.declared.parts.TermPart.{TermPart}
-use Rattle.gta_syntax.specs.declared.parts.AtomPart.{AtomPart}
-use Rattle.gta_syntax.specs.declared.parts.AtomPart.TheVariants.{Label, Column}
-use Rattle.gta_syntax.specs.declared.parts.Cmp.{Cmp}
-use Rattle.gta_syntax.specs.declared.parts.Cmp.TheVariants.{AtMost, AtLeast, Equal}
-use Rattle.gta_syntax.specs.declared.parts.Check.{Check}
-use Rattle.gta_syntax.specs.declared.parts.Check.TheVariants.{Compare, Mod}
-use Rattle.gta_syntax.specs.declared.parts.GoalPart.{GoalPart}
-use Rattle.gta_syntax.specs.declared.parts.GoalPart.TheVariants.{Count, Any, Max, Min, Best}
-use Rattle.gta_syntax.specs.Parts.{CaseTree, PickTree, TestTree, Sum, Length, Fold, KindTree, Columns, Labels, Measure, Table, Times, Generate, Test, Aggregate}
+use Rattle.gta_spec.specs.declared.parts.ColumnItem.{ColumnItem}
+use Rattle.gta_spec.specs.declared.parts.TermPart.{TermPart}
+use Rattle.gta_spec.specs.declared.parts.AtomPart.{AtomPart}
+use Rattle.gta_spec.specs.declared.parts.AtomPart.TheVariants.{Label, Column}
+use Rattle.gta_spec.specs.declared.parts.Cmp.{Cmp}
+use Rattle.gta_spec.specs.declared.parts.Cmp.TheVariants.{AtMost, AtLeast, Equal}
+use Rattle.gta_spec.specs.declared.parts.Check.{Check}
+use Rattle.gta_spec.specs.declared.parts.Check.TheVariants.{Compare, Mod}
+use Rattle.gta_spec.specs.declared.parts.GoalPart.{GoalPart}
+use Rattle.gta_spec.specs.declared.parts.GoalPart.TheVariants.{Count, Any, Max, Min, Best}
+use Rattle.gta_spec.specs.Parts.{CaseTree, PickTree, TestTree, Sum, Length, Fold, KindTree, Columns, Labels, Measure, Table, Times, Generate, Test, Aggregate}
 use Rattle.gta_syntax.specs.Symbols.{Symbol, Word, Digits, Sign}
 use Rattle.gta_syntax.specs.Grammar.{IsName, IsNames, IsNum, IsItem, IsCmp, IsAtom, IsAnd, IsIf, IsTerm, IsFirstTerm, IsNextTerm, IsForm, IsCase, IsNextCase, IsCases, IsPick, IsNextPick, IsPicks, IsCheck, IsTest, IsShape, IsEnd, IsGoal, IsLine, IsPart, Many, none, some, Listed, listed, behind}
-use Rattle.gta_syntax.specs.WellFormed.{FitsName, FitsDigits, FitsNum, FitsHeaderIf, EachFits, SomeFit, FitsItem, FitsAtom, FitsQuantity, FitsTerm, FitsCase, FitsPick, FitsCheck, FitsTest, FitsGoal, FitsKind}
+use Rattle.gta_spec.specs.WellFormed.{FitsName, FitsDigits, FitsNum, FitsHeaderIf, EachFits, SomeFit, FitsItem, FitsAtom, FitsQuantity, FitsTerm, FitsCase, FitsPick, FitsCheck, FitsTest, FitsGoal, FitsKind}
 use Rattle.gta_syntax.specs.Canonical.{Piece, spaced, glued, fronts, name_front, names_front, num_front, item_front, cmp_text, atom_front, and_front, if_front, quantity_front, first_term_front, next_term_front, form_front, case_front, next_case_front, cases_front, pick_front, next_pick_front, picks_front, check_front, test_front, shape_word, end_word, goal_front, kind_front}
 use Rattle.gta_syntax.proofs.Lexed.{IsSignText, Closed, AreWritable}
 

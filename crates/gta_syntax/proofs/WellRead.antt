@@ -15,9 +15,9 @@ use Rattle.gta_text.proofs.Slices.{pick, next_there, spelled_from, with_text, sl
 use Rattle.gta_text.specs.Text.{IsHeld, AreHeld}
 use Rattle.gta_text.proofs.FoundLines.{HeldIn, text_held}
 use Rattle.gta_syntax.specs.Symbols.{Symbol, Word, Digits, Text, Sign, Stray, unquoted, symbol_as, symbol_of, symbols}
-use Rattle.gta_syntax.specs.Parts.{PartTree, SpecTree}
+use Rattle.gta_spec.specs.Parts.{PartTree, SpecTree}
 use Rattle.gta_syntax.specs.SpecText.{is_past, has_past, AreParts, none, some, SpecText}
-use Rattle.gta_syntax.specs.WellFormed.{FitParts, IsWellFormed}
+use Rattle.gta_spec.specs.WellFormed.{FitParts, IsWellFormed}
 use Rattle.gta_syntax.proofs.Fits.{GoodSymbol, AllGood, Good, line_fits}
 
 -- a line's symbols, by its bytes alone

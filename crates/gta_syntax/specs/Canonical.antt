@@ -2,17 +2,17 @@
 use Rattle.std.specs.Prelude.{ℕ, suc, ◌+◌, Bool, true, false, List, [], ◌∷◌, ◌++◌, flat_map, ℤ, pos, negsuc, Option, Some, None, codes, if◌then◌else◌, decimal}
 use Rattle.shape_gen.specs.declared.shape.Shape.{Shape}
 use Rattle.shape_gen.specs.declared.shape.Shape.TheVariants as shapes
-use Rattle.gta_syntax.specs.declared.parts.ColumnItem.{ColumnItem}
-use Rattle.gta_syntax.specs.declared.parts.TermPart.{TermPart}
-use Rattle.gta_syntax.specs.declared.parts.AtomPart.{AtomPart}
-use Rattle.gta_syntax.specs.declared.parts.AtomPart.TheVariants.{Label, Column}
-use Rattle.gta_syntax.specs.declared.parts.Cmp.{Cmp}
-use Rattle.gta_syntax.specs.declared.parts.Cmp.TheVariants.{AtMost, AtLeast, Equal}
-use Rattle.gta_syntax.specs.declared.parts.Check.{Check}
-use Rattle.gta_syntax.specs.declared.parts.Check.TheVariants.{Compare, Mod}
-use Rattle.gta_syntax.specs.declared.parts.GoalPart.{GoalPart}
-use Rattle.gta_syntax.specs.declared.parts.GoalPart.TheVariants.{Count, Any, Max, Min, Best}
-use Rattle.gta_syntax.specs.Parts.{CaseTree, PickTree, TestTree, Sum, Length, Fold, KindTree, Columns, Labels, Measure, Table, Times, Generate, Test, Aggregate, PartTree, SpecTree}
+use Rattle.gta_spec.specs.declared.parts.ColumnItem.{ColumnItem}
+use Rattle.gta_spec.specs.declared.parts.TermPart.{TermPart}
+use Rattle.gta_spec.specs.declared.parts.AtomPart.{AtomPart}
+use Rattle.gta_spec.specs.declared.parts.AtomPart.TheVariants.{Label, Column}
+use Rattle.gta_spec.specs.declared.parts.Cmp.{Cmp}
+use Rattle.gta_spec.specs.declared.parts.Cmp.TheVariants.{AtMost, AtLeast, Equal}
+use Rattle.gta_spec.specs.declared.parts.Check.{Check}
+use Rattle.gta_spec.specs.declared.parts.Check.TheVariants.{Compare, Mod}
+use Rattle.gta_spec.specs.declared.parts.GoalPart.{GoalPart}
+use Rattle.gta_spec.specs.declared.parts.GoalPart.TheVariants.{Count, Any, Max, Min, Best}
+use Rattle.gta_spec.specs.Parts.{CaseTree, PickTree, TestTree, Sum, Length, Fold, KindTree, Columns, Labels, Measure, Table, Times, Generate, Test, Aggregate, PartTree, SpecTree}
 use Rattle.gta_syntax.specs.Symbols.{Symbol, Word, Digits, Text, Sign, Stray}
 
 -- a symbol, and whether no space stands before it

@@ -4,7 +4,7 @@ use Rattle.std.specs.List.{list_any}
 use Rattle.gta_text.specs.Text.{Numbered, BadByte, read_lines}
 use Rattle.gta_syntax.specs.declared.fault.SpecFault.{SpecFault}
 use Rattle.gta_syntax.specs.declared.fault.SpecFault.TheVariants.{Byte, Version, Grammar, Number, NoRows}
-use Rattle.gta_syntax.specs.Parts.{KindTree, PartTree}
+use Rattle.gta_spec.specs.Parts.{KindTree, PartTree}
 use Rattle.gta_syntax.specs.Symbols.{symbols}
 use Rattle.gta_syntax.specs.Grammar.{IsPart}
 use Rattle.gta_syntax.specs.SpecText.{is_version, has_past, AreParts}

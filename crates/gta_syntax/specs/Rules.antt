@@ -4,19 +4,19 @@ use Rattle.std.specs.Str.{bytes_eq}
 use Rattle.shape_gen.specs.declared.shape.Shape.{Shape}
 use Rattle.shape_gen.specs.declared.shape.Shape.TheVariants as shapes
 use Rattle.gta_text.specs.Names.{is_name_text}
-use Rattle.gta_syntax.specs.declared.parts.ColumnItem.{ColumnItem}
-use Rattle.gta_syntax.specs.declared.parts.TermPart.{TermPart}
-use Rattle.gta_syntax.specs.declared.parts.AtomPart.{AtomPart}
-use Rattle.gta_syntax.specs.declared.parts.AtomPart.TheVariants.{Label, Column}
-use Rattle.gta_syntax.specs.declared.parts.Cmp.{Cmp}
-use Rattle.gta_syntax.specs.declared.parts.Cmp.TheVariants.{AtMost, AtLeast, Equal}
-use Rattle.gta_syntax.specs.declared.parts.Check.{Check}
-use Rattle.gta_syntax.specs.declared.parts.Check.TheVariants.{Compare, Mod}
-use Rattle.gta_syntax.specs.declared.parts.GoalPart.{GoalPart}
-use Rattle.gta_syntax.specs.declared.parts.GoalPart.TheVariants.{Count, Any, Max, Min, Best}
+use Rattle.gta_spec.specs.declared.parts.ColumnItem.{ColumnItem}
+use Rattle.gta_spec.specs.declared.parts.TermPart.{TermPart}
+use Rattle.gta_spec.specs.declared.parts.AtomPart.{AtomPart}
+use Rattle.gta_spec.specs.declared.parts.AtomPart.TheVariants.{Label, Column}
+use Rattle.gta_spec.specs.declared.parts.Cmp.{Cmp}
+use Rattle.gta_spec.specs.declared.parts.Cmp.TheVariants.{AtMost, AtLeast, Equal}
+use Rattle.gta_spec.specs.declared.parts.Check.{Check}
+use Rattle.gta_spec.specs.declared.parts.Check.TheVariants.{Compare, Mod}
+use Rattle.gta_spec.specs.declared.parts.GoalPart.{GoalPart}
+use Rattle.gta_spec.specs.declared.parts.GoalPart.TheVariants.{Count, Any, Max, Min, Best}
 use Rattle.gta_syntax.specs.declared.fault.LineFault.{LineFault}
 use Rattle.gta_syntax.specs.declared.fault.LineFault.TheVariants as faults
-use Rattle.gta_syntax.specs.Parts.{CaseTree, PickTree, TestTree, Sum, Length, Fold, KindTree, Columns, Labels, Measure, Table, Times, Generate, Test, Aggregate}
+use Rattle.gta_spec.specs.Parts.{CaseTree, PickTree, TestTree, Sum, Length, Fold, KindTree, Columns, Labels, Measure, Table, Times, Generate, Test, Aggregate}
 use Rattle.gta_syntax.specs.Symbols.{Symbol, Word, Digits, Text, Sign, Stray}
 
 infixl 10 ◌>>=◌

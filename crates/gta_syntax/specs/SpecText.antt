@@ -7,7 +7,7 @@ use Rattle.gta_text.specs.declared.token.Token.{Token}
 use Rattle.gta_text.specs.declared.token.TokenKind.{TokenKind}
 use Rattle.gta_text.specs.declared.token.TokenKind.TheVariants as kinds
 use Rattle.gta_text.specs.Text.{Numbered, read_lines, token_text, is_the_word}
-use Rattle.gta_syntax.specs.Parts.{KindTree, PartTree, SpecTree}
+use Rattle.gta_spec.specs.Parts.{KindTree, PartTree, SpecTree}
 use Rattle.gta_syntax.specs.Symbols.{Symbol, Word, Digits, Text, Sign, Stray, symbol_of, symbols}
 use Rattle.gta_syntax.specs.Grammar.{IsPart}
 

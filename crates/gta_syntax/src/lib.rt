@@ -1,11 +1,10 @@
-//! The text of a specification: its parts, reading it, and printing it.
+//! The text of a specification: reading it, and printing it. Its parts are types of gta_spec.
 #![tactic(auto)]
 
 mod fault;
 mod line_rules;
 mod measures;
 mod part_printing;
-mod parts;
 mod printing;
 mod reading;
 mod rules;
@@ -13,10 +12,6 @@ mod showing;
 mod symbols;
 
 pub use fault::SpecFault;
-pub use parts::{
-    AtomPart, CasePart, Check, Cmp, ColumnItem, GoalPart, MeasurePart, Part, PartKind, PickPart,
-    Spec, TablePart, TermPart, TestPart, TimesPart,
-};
 pub use reading::{Read, read_spec};
 pub use showing::show_spec;
 

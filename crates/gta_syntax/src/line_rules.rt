@@ -1,14 +1,14 @@
 //! Reading a whole line: each function gives what the definition of its name in specs/Rules.antt
 //! gives.
 ghost use Rattle.std.specs.Prelude.{◌≡◌, codes, map};
-ghost use Rattle.gta_syntax.specs.Parts.{test_tree, kind_tree};
+ghost use Rattle.gta_spec.specs.Parts.{test_tree, kind_tree};
 ghost use Rattle.gta_syntax.specs.Symbols.{symbols};
 ghost use Rattle.gta_syntax.specs.Rules.{Gives, check_at, fold_at, test_at, shape_at, end_at, best_at, goal_at};
 ghost use Rattle.gta_syntax.specs.Rules.{measure_at, table_at, times_at, line_at, part_at};
 
 use crate::fault::LineFault;
 use crate::measures::{cases_at, picks_at};
-use crate::parts::{Check, GoalPart, MeasurePart, PartKind, TablePart, TestPart, TimesPart};
+use gta_spec::{Check, GoalPart, MeasurePart, PartKind, TablePart, TestPart, TimesPart};
 use crate::rules::{cmp_at, items_at, names_at, num_at};
 use crate::symbols::{digits_at, name_at, sign_at, word, word_at};
 use gta_text::Token;

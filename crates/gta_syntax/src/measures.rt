@@ -1,13 +1,13 @@
 //! Reading the cases of measures and the picks of folds: each function gives what the definition
 //! of its name in specs/Rules.antt gives.
 ghost use Rattle.std.specs.Prelude.{◌≡◌, ℕ, length, map, codes};
-ghost use Rattle.gta_syntax.specs.Parts.{case_tree, pick_tree};
+ghost use Rattle.gta_spec.specs.Parts.{case_tree, pick_tree};
 ghost use Rattle.gta_syntax.specs.Symbols.{symbols};
 ghost use Rattle.gta_syntax.specs.Rules.{Gives, many, list_at, begins_sign, begins_next_term, term_at, first_term_at};
 ghost use Rattle.gta_syntax.specs.Rules.{next_term_at, form_at, case_at, next_case_at, cases_at, pick_at, next_pick_at, picks_at};
 
 use crate::fault::LineFault;
-use crate::parts::{CasePart, PickPart, TermPart};
+use gta_spec::{CasePart, PickPart, TermPart};
 use crate::rules::if_at;
 use crate::symbols::{begins_sign, name_at, number, sign, sign_at};
 use gta_text::Token;

@@ -1,14 +1,14 @@
 //! Printing measures, folds and whole lines. What is printed is in specs/Canonical.antt; each
 //! function adds what the definition of its name with `_front` says.
 ghost use Rattle.std.specs.Prelude.{◌≡◌, ℕ, Bool, [], ◌∷◌, ◌++◌, map, flat_map, IfOk, OnOk, codes, decimal, Option, if◌then◌else◌};
-ghost use Rattle.gta_syntax.specs.Parts.{case_tree, pick_tree, test_tree, kind_tree, part_tree};
+ghost use Rattle.gta_spec.specs.Parts.{case_tree, pick_tree, test_tree, kind_tree, part_tree};
 ghost use Rattle.gta_syntax.specs.Symbols.{Word};
 ghost use Rattle.gta_syntax.specs.Canonical.{spaced, line_text, fronts, names_front, quantity_front, first_term_front};
 ghost use Rattle.gta_syntax.specs.Canonical.{next_term_front, form_front, case_front, next_case_front, cases_front};
 ghost use Rattle.gta_syntax.specs.Canonical.{pick_front, next_pick_front, picks_front, check_front, test_front};
 ghost use Rattle.gta_syntax.specs.Canonical.{shape_word, end_word, goal_front, kind_front, part_text};
 
-use crate::parts::{CasePart, Check, GoalPart, Part, PartKind, PickPart, TermPart, TestPart};
+use gta_spec::{CasePart, Check, GoalPart, Part, PartKind, PickPart, TermPart, TestPart};
 use crate::printing::{
     put_cmp, put_digits, put_if, put_items, put_name, put_names, put_num, put_number, put_spaced,
 };

@@ -5,7 +5,7 @@ ghost use Rattle.std.specs.Fmt.{signed_decimal};
 ghost use Rattle.gta_syntax.specs.Canonical.{line_text, fronts, name_front, names_front, num_front, item_front, cmp_text, atom_front};
 ghost use Rattle.gta_syntax.specs.Canonical.{and_front, if_front};
 
-use crate::parts::{AtomPart, Cmp, ColumnItem};
+use gta_spec::{AtomPart, Cmp, ColumnItem};
 use gta_text::Name;
 use std::alloc::{AllocError, Global};
 

@@ -3,12 +3,12 @@
 ghost use Rattle.std.specs.Prelude.{◌≡◌, ◌≢◌, ℕ, ◌≤◌, length, map, Ok, Err, IfOk, IsErrOf};
 ghost use Rattle.gta_text.specs.Text.{line_view};
 ghost use Rattle.gta_text.specs.declared.lines.TheConstants.{INPUT_BOUND};
-ghost use Rattle.gta_syntax.specs.Parts.{part_tree, SpecTree, spec_tree};
+ghost use Rattle.gta_spec.specs.Parts.{part_tree, SpecTree, spec_tree};
 ghost use Rattle.gta_syntax.specs.Symbols.{symbols};
 ghost use Rattle.gta_syntax.specs.Rules.{part_at};
 ghost use Rattle.gta_syntax.specs.SpecText.{SpecText, is_version, is_past, has_past};
 ghost use Rattle.gta_syntax.specs.Symbols.{symbol_of};
-ghost use Rattle.gta_syntax.specs.WellFormed.{IsWellFormed};
+ghost use Rattle.gta_spec.specs.WellFormed.{IsWellFormed};
 ghost use Rattle.gta_syntax.specs.Refused.{IsRefused};
 ghost use Rattle.gta_syntax.specs.declared.fault.SpecFault.{SpecFault};
 ghost use Rattle.gta_syntax.specs.declared.fault.SpecFault.TheVariants.{Memory};
@@ -16,7 +16,7 @@ ghost use Rattle.gta_syntax.specs.Refusals.{first_past, the_part, parts_from, re
 
 use crate::fault::{LineFault, SpecFault};
 use crate::line_rules::part_at;
-use crate::parts::{Part, Spec};
+use gta_spec::{Part, Spec};
 use crate::symbols::value_of;
 use gta_text::{INPUT_BOUND, Line, NUMBER_BOUND, Token, TokenKind, lines_of};
 use std::alloc::Global;

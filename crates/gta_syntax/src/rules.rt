@@ -6,7 +6,7 @@ ghost use Rattle.gta_syntax.specs.Rules.{Gives, many, list_at, begins_name, begi
 ghost use Rattle.gta_syntax.specs.Rules.{num_at, item_at, cmp_at, atom_at, and_at, cond_at, if_at};
 
 use crate::fault::LineFault;
-use crate::parts::{AtomPart, Cmp, ColumnItem};
+use gta_spec::{AtomPart, Cmp, ColumnItem};
 use crate::symbols::{
     begins_name, begins_word, digits_at, name_at, sign, sign_at, text_at, word, word_at,
 };

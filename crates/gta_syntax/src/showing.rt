@@ -1,13 +1,13 @@
 //! Printing a specification. The canonical text is in specs/Canonical.antt, and which
 //! specifications have one is in specs/WellFormed.antt.
 ghost use Rattle.std.specs.Prelude.{length, ◌≡◌, ◌++◌, map, flat_map, IfOk, OnOk};
-ghost use Rattle.gta_syntax.specs.Parts.{part_tree, spec_tree};
-ghost use Rattle.gta_syntax.specs.WellFormed.{IsWellFormed};
+ghost use Rattle.gta_spec.specs.Parts.{part_tree, spec_tree};
+ghost use Rattle.gta_spec.specs.WellFormed.{IsWellFormed};
 ghost use Rattle.gta_syntax.specs.Canonical.{canonical, part_text, shown_as};
 ghost use Rattle.gta_syntax.specs.SpecText.{SpecText};
 
 use crate::part_printing::put_part;
-use crate::parts::{Part, Spec};
+use gta_spec::{Part, Spec};
 use std::alloc::{AllocError, Global};
 
 /// The canonical text of the specification: `gta 1`, each part on a line of its own, and `rows`.

@@ -1,5 +1,5 @@
 use Rattle.std.proofs.Common.{◌≡◌, ◌++◌, []}
-use Rattle.gta_syntax.specs.Parts.{case_tree}
+use Rattle.gta_spec.specs.Parts.{case_tree}
 use Rattle.gta_syntax.specs.Canonical.{line_text, form_front, if_front, case_front}
 use Rattle.gta_syntax.proofs.Fronts.{form_splits, joined}
 use Rattle.gta_syntax.proofs.part_printing.put_case.Goals as goal

@@ -1,5 +1,5 @@
 use Rattle.std.proofs.Common.{◌≡◌, ◌++◌, ◌∷◌, [], map}
-use Rattle.gta_syntax.specs.Parts.{case_tree}
+use Rattle.gta_spec.specs.Parts.{case_tree}
 use Rattle.gta_syntax.specs.Canonical.{line_text, fronts, case_front, next_case_front, cases_front}
 use Rattle.gta_syntax.proofs.Fronts.{case_splits, joined}
 use Rattle.gta_syntax.proofs.part_printing.put_cases.Goals as goal

@@ -1,7 +1,7 @@
 use Rattle.std.proofs.Common.{◌≡◌, ◌++◌, ◌∷◌, [], append_assoc}
 use Rattle.std.specs.Prelude.{codes}
 use Rattle.gta_syntax.specs.Symbols.{Word}
-use Rattle.gta_syntax.specs.Parts.{kind_tree}
+use Rattle.gta_spec.specs.Parts.{kind_tree}
 use Rattle.gta_syntax.specs.Canonical.{spaced, line_text, names_front, kind_front}
 use Rattle.gta_syntax.proofs.Fronts.{table_splits, joined}
 use Rattle.gta_syntax.proofs.part_printing.put_kind.Goals as goal

@@ -1,5 +1,5 @@
 use Rattle.std.proofs.Common.{◌++◌, [], drop, map}
-use Rattle.gta_syntax.specs.Parts.{case_tree}
+use Rattle.gta_spec.specs.Parts.{case_tree}
 use Rattle.gta_syntax.specs.Canonical.{line_text, fronts, next_case_front}
 use Rattle.gta_syntax.proofs.Fronts.{Written}
 use Rattle.gta_syntax.proofs.part_printing.put_more_cases.Given as goal

@@ -1,5 +1,5 @@
 use Rattle.std.proofs.Common.{◌≡◌, ◌++◌, ◌∷◌, [], map}
-use Rattle.gta_syntax.specs.Parts.{pick_tree}
+use Rattle.gta_spec.specs.Parts.{pick_tree}
 use Rattle.gta_syntax.specs.Canonical.{line_text, fronts, pick_front, next_pick_front, picks_front}
 use Rattle.gta_syntax.proofs.Fronts.{pick_splits, joined}
 use Rattle.gta_syntax.proofs.part_printing.put_picks.Goals as goal

@@ -1,7 +1,7 @@
 use Rattle.std.proofs.Common.{◌≡◌, ◌++◌, ◌∷◌, [], map, append_assoc}
 use Rattle.std.specs.Prelude.{codes}
 use Rattle.gta_syntax.specs.Symbols.{Word}
-use Rattle.gta_syntax.specs.Parts.{pick_tree, test_tree}
+use Rattle.gta_spec.specs.Parts.{pick_tree, test_tree}
 use Rattle.gta_syntax.specs.Canonical.{spaced, line_text, names_front, picks_front, test_front}
 use Rattle.gta_syntax.proofs.Fronts.{fold_splits, joined}
 use Rattle.gta_syntax.proofs.part_printing.put_test.Goals as goal

@@ -1,6 +1,6 @@
 use Rattle.std.specs.Prelude.{map, drop}
 use Rattle.gta_text.specs.Text.{line_view}
-use Rattle.gta_syntax.specs.Parts.{part_tree}
+use Rattle.gta_spec.specs.Parts.{part_tree}
 use Rattle.gta_syntax.specs.Refusals.{parts_from}
 use Rattle.gta_syntax.proofs.PartLoops.{PartsSoFar}
 use Rattle.gta_syntax.proofs.reading.parts_of.Given as goal

@@ -1,6 +1,6 @@
 use Rattle.std.proofs.Common.{◌≡◌, ◌++◌, drop, map}
 use Rattle.std.specs.Prelude.{flat_map}
-use Rattle.gta_syntax.specs.Parts.{part_tree}
+use Rattle.gta_spec.specs.Parts.{part_tree}
 use Rattle.gta_syntax.specs.Canonical.{part_text}
 use Rattle.gta_syntax.proofs.showing.put_parts.Given as goal
 

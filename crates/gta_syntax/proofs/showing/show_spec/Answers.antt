@@ -1,4 +1,4 @@
-use Rattle.gta_syntax.specs.Parts.{spec_tree}
+use Rattle.gta_spec.specs.Parts.{spec_tree}
 use Rattle.gta_syntax.proofs.ReadBack.{reads_back}
 use Rattle.gta_syntax.proofs.showing.show_spec.Goals as goal
 

@@ -4,15 +4,15 @@ use Rattle.std.specs.List.{list_all}
 use Rattle.gta_text.specs.declared.numbers.TheConstants.{NUMBER_BOUND}
 use Rattle.gta_text.specs.Names.{is_name_text}
 use Rattle.gta_text.specs.Tokens.{is_text_byte}
-use Rattle.gta_syntax.specs.declared.parts.ColumnItem.{ColumnItem}
-use Rattle.gta_syntax.specs.declared.parts.TermPart.{TermPart}
-use Rattle.gta_syntax.specs.declared.parts.AtomPart.{AtomPart}
-use Rattle.gta_syntax.specs.declared.parts.AtomPart.TheVariants.{Label, Column}
-use Rattle.gta_syntax.specs.declared.parts.Check.{Check}
-use Rattle.gta_syntax.specs.declared.parts.Check.TheVariants.{Compare, Mod}
-use Rattle.gta_syntax.specs.declared.parts.GoalPart.{GoalPart}
-use Rattle.gta_syntax.specs.declared.parts.GoalPart.TheVariants.{Count, Any, Max, Min, Best}
-use Rattle.gta_syntax.specs.Parts.{CaseTree, PickTree, TestTree, Sum, Length, Fold, KindTree, Columns, Labels, Measure, Table, Times, Generate, Test, Aggregate, PartTree, SpecTree}
+use Rattle.gta_spec.specs.declared.parts.ColumnItem.{ColumnItem}
+use Rattle.gta_spec.specs.declared.parts.TermPart.{TermPart}
+use Rattle.gta_spec.specs.declared.parts.AtomPart.{AtomPart}
+use Rattle.gta_spec.specs.declared.parts.AtomPart.TheVariants.{Label, Column}
+use Rattle.gta_spec.specs.declared.parts.Check.{Check}
+use Rattle.gta_spec.specs.declared.parts.Check.TheVariants.{Compare, Mod}
+use Rattle.gta_spec.specs.declared.parts.GoalPart.{GoalPart}
+use Rattle.gta_spec.specs.declared.parts.GoalPart.TheVariants.{Count, Any, Max, Min, Best}
+use Rattle.gta_spec.specs.Parts.{CaseTree, PickTree, TestTree, Sum, Length, Fold, KindTree, Columns, Labels, Measure, Table, Times, Generate, Test, Aggregate, PartTree, SpecTree}
 
 abbrev pub FitsName : List ℕ → Type 0
 FitsName x = is_name_text x ≡ true

@@ -1,22 +1,22 @@
 -- The parts of a specification with lists in place of vectors, as the grammar speaks of them.
 use Rattle.std.specs.Prelude.{ℕ, List, map}
 use Rattle.shape_gen.specs.declared.shape.Shape.{Shape}
-use Rattle.gta_syntax.specs.declared.parts.ColumnItem.{ColumnItem}
-use Rattle.gta_syntax.specs.declared.parts.TermPart.{TermPart}
-use Rattle.gta_syntax.specs.declared.parts.AtomPart.{AtomPart}
-use Rattle.gta_syntax.specs.declared.parts.Check.{Check}
-use Rattle.gta_syntax.specs.declared.parts.GoalPart.{GoalPart}
-use Rattle.gta_syntax.specs.declared.parts.CasePart.{CasePart}
-use Rattle.gta_syntax.specs.declared.parts.MeasurePart.{MeasurePart}
-use Rattle.gta_syntax.specs.declared.parts.TablePart.{TablePart}
-use Rattle.gta_syntax.specs.declared.parts.TimesPart.{TimesPart}
-use Rattle.gta_syntax.specs.declared.parts.PickPart.{PickPart}
-use Rattle.gta_syntax.specs.declared.parts.TestPart.{TestPart}
-use Rattle.gta_syntax.specs.declared.parts.TestPart.TheVariants as tests
-use Rattle.gta_syntax.specs.declared.parts.PartKind.{PartKind}
-use Rattle.gta_syntax.specs.declared.parts.PartKind.TheVariants as kinds
-use Rattle.gta_syntax.specs.declared.parts.Part.{Part}
-use Rattle.gta_syntax.specs.declared.parts.Spec.{Spec}
+use Rattle.gta_spec.specs.declared.parts.ColumnItem.{ColumnItem}
+use Rattle.gta_spec.specs.declared.parts.TermPart.{TermPart}
+use Rattle.gta_spec.specs.declared.parts.AtomPart.{AtomPart}
+use Rattle.gta_spec.specs.declared.parts.Check.{Check}
+use Rattle.gta_spec.specs.declared.parts.GoalPart.{GoalPart}
+use Rattle.gta_spec.specs.declared.parts.CasePart.{CasePart}
+use Rattle.gta_spec.specs.declared.parts.MeasurePart.{MeasurePart}
+use Rattle.gta_spec.specs.declared.parts.TablePart.{TablePart}
+use Rattle.gta_spec.specs.declared.parts.TimesPart.{TimesPart}
+use Rattle.gta_spec.specs.declared.parts.PickPart.{PickPart}
+use Rattle.gta_spec.specs.declared.parts.TestPart.{TestPart}
+use Rattle.gta_spec.specs.declared.parts.TestPart.TheVariants as tests
+use Rattle.gta_spec.specs.declared.parts.PartKind.{PartKind}
+use Rattle.gta_spec.specs.declared.parts.PartKind.TheVariants as kinds
+use Rattle.gta_spec.specs.declared.parts.Part.{Part}
+use Rattle.gta_spec.specs.declared.parts.Spec.{Spec}
 
 pub record CaseTree : Type 0 where
   pub form : List TermPart
