@@ -1,0 +1,3 @@
+pub mod Plain
+pub mod Within
+pub mod Cells

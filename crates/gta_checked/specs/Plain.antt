@@ -1,0 +1,64 @@
+-- A checked specification with lists in place of vectors, as definitions speak of it.
+use Rattle.std.specs.Prelude.{ℕ, List, map}
+use Rattle.shape_gen.specs.declared.shape.Shape.{Shape}
+use Rattle.gta_spec.specs.declared.parts.Check.{Check}
+use Rattle.gta_spec.specs.declared.parts.ColumnItem.{ColumnItem}
+use Rattle.gta_checked.specs.declared.resolved.Term.{Term}
+use Rattle.gta_checked.specs.declared.resolved.Atom.{Atom}
+use Rattle.gta_checked.specs.declared.resolved.Case.{Case}
+use Rattle.gta_checked.specs.declared.resolved.Measure.{Measure}
+use Rattle.gta_checked.specs.declared.resolved.Pick.{Pick}
+use Rattle.gta_checked.specs.declared.resolved.Test.{Test}
+use Rattle.gta_checked.specs.declared.resolved.Test.TheVariants as tests
+use Rattle.gta_checked.specs.declared.resolved.Goal.{Goal}
+
+-- a linear form, and the atoms of its condition
+pub record PlainCase : Type 0 where
+  pub form : List Term
+  pub cond : List Atom
+
+-- an element, and the atoms of its condition
+pub record PlainPick : Type 0 where
+  pub element : ℕ
+  pub cond : List Atom
+
+pub data PlainTest : Type 0 where
+  Sum : ℕ → Check → PlainTest
+  Length : Check → PlainTest
+  Fold : ℕ → List PlainPick → List ℕ → PlainTest
+
+-- a specification with its names resolved; a measure is the list of its cases
+pub record PlainChecked : Type 0 where
+  pub version : ℕ
+  pub columns : List ColumnItem
+  pub labels : List (List ℕ)
+  pub measures : List (List PlainCase)
+  pub tests : List PlainTest
+  pub shape : Shape
+  pub goal : Goal
+
+abbrev pub plain_case : Case → PlainCase
+plain_case case = record { form = case.form.items; cond = case.cond.items }
+
+abbrev pub plain_measure : Measure → List PlainCase
+plain_measure measure = map plain_case measure.cases.items
+
+abbrev pub plain_pick : Pick → PlainPick
+plain_pick pick = record { element = pick.element; cond = pick.cond.items }
+
+abbrev pub plain_test : Test → PlainTest
+plain_test (tests.Sum measure check) = Sum measure check
+plain_test (tests.Length check) = Length check
+plain_test (tests.Fold table picks accept) = Fold table (map plain_pick picks.items) accept.items
+
+abbrev pub plain_checked : ℕ → List ColumnItem → List (List ℕ) → List Measure → List Test → Shape → Goal → PlainChecked
+plain_checked version columns labels measures tests shape goal =
+    record {
+      version = version;
+      columns = columns;
+      labels = labels;
+      measures = map plain_measure measures;
+      tests = map plain_test tests;
+      shape = shape;
+      goal = goal;
+    }

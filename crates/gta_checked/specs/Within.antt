@@ -1,0 +1,70 @@
+-- The limits that every checked specification keeps: its numbers are declared, and its lists and numbers are not too large.
+use Rattle.std.specs.Prelude.{◌≡◌, ℕ, ◌+◌, ◌<◌, ◌≤◌, ◌↔◌, ℤ, pos, ◌≤ℤ◌, nat_abs, List, length, Option, Some, None, All}
+use Rattle.gta_text.specs.declared.numbers.TheConstants.{NUMBER_BOUND}
+use Rattle.shape_gen.specs.declared.shape.Shape.TheVariants.{Assign}
+use Rattle.gta_spec.specs.declared.limits.TheConstants.{ATOM_LIMIT, BOUND_LIMIT, CASE_LIMIT, COLUMN_LIMIT, FACTOR_LIMIT}
+use Rattle.gta_spec.specs.declared.limits.TheConstants.{KEEP_LIMIT, LABEL_LIMIT, MEASURE_LIMIT, MODULUS_LIMIT}
+use Rattle.gta_spec.specs.declared.limits.TheConstants.{TABLE_LIMIT, ELEMENT_LIMIT, TERM_LIMIT, TEST_LIMIT}
+use Rattle.gta_spec.specs.declared.parts.Check.{Check}
+use Rattle.gta_spec.specs.declared.parts.Check.TheVariants.{Compare, Mod}
+use Rattle.gta_checked.specs.declared.resolved.Term.{Term}
+use Rattle.gta_checked.specs.declared.resolved.Atom.{Atom}
+use Rattle.gta_checked.specs.declared.resolved.Atom.TheVariants.{Label, Column}
+use Rattle.gta_checked.specs.declared.resolved.Goal.{Goal}
+use Rattle.gta_checked.specs.declared.resolved.Goal.TheVariants.{Count, Any, Max, Min, Best}
+use Rattle.gta_checked.specs.Plain.{PlainCase, PlainPick, PlainTest, Sum, Length, Fold, PlainChecked}
+
+-- a declared column has a factor, and a number is one that a specification can have
+abbrev pub IsFactorWithin : ℕ → ℤ → Option ℕ → Type 0
+IsFactorWithin columns factor None = nat_abs factor ≤ NUMBER_BOUND
+IsFactorWithin columns factor (Some column) = (column < columns) × (nat_abs factor ≤ FACTOR_LIMIT)
+
+abbrev pub IsTermWithin : ℕ → Term → Type 0
+IsTermWithin columns term = IsFactorWithin columns term.factor term.column
+
+abbrev pub IsAtomWithin : ℕ → ℕ → Atom → Type 0
+IsAtomWithin columns labels (Label label) = label < labels
+IsAtomWithin columns labels (Column column cmp number) = column < columns
+
+abbrev pub IsConditionWithin : ℕ → ℕ → List Atom → Type 0
+IsConditionWithin columns labels cond = (length cond ≤ ATOM_LIMIT) × All (IsAtomWithin columns labels) cond
+
+pub record IsCaseWithin (columns labels : ℕ) (case : PlainCase) : Type 0 where
+  pub few_terms : length case.form ≤ TERM_LIMIT
+  pub terms : All (IsTermWithin columns) case.form
+  pub condition : IsConditionWithin columns labels case.cond
+
+abbrev pub IsMeasureWithin : ℕ → ℕ → List PlainCase → Type 0
+IsMeasureWithin columns labels cases = (length cases ≤ CASE_LIMIT) × All (IsCaseWithin columns labels) cases
+
+abbrev pub IsCheckWithin : Check → Type 0
+IsCheckWithin (Compare cmp number) = (pos 0 ≤ℤ number) × (number ≤ℤ pos BOUND_LIMIT)
+IsCheckWithin (Mod modulus residue) = (modulus ≤ MODULUS_LIMIT) × (residue < modulus)
+
+abbrev pub IsPickWithin : ℕ → ℕ → PlainPick → Type 0
+IsPickWithin columns labels pick = (pick.element < ELEMENT_LIMIT) × IsConditionWithin columns labels pick.cond
+
+abbrev pub IsTestWithin : ℕ → ℕ → ℕ → PlainTest → Type 0
+IsTestWithin columns labels measures (Sum measure check) = (measure < measures) × IsCheckWithin check
+IsTestWithin columns labels measures (Length check) = IsCheckWithin check
+IsTestWithin columns labels measures (Fold table picks accept) =
+    (table < TABLE_LIMIT) × (length picks ≤ CASE_LIMIT) × All (IsPickWithin columns labels) picks
+    × All (λ element. element < ELEMENT_LIMIT) accept
+
+abbrev pub IsGoalWithin : ℕ → Goal → Type 0
+IsGoalWithin measures Count = Unit {0}
+IsGoalWithin measures Any = Unit {0}
+IsGoalWithin measures (Max measure) = measure < measures
+IsGoalWithin measures (Min measure) = measure < measures
+IsGoalWithin measures (Best k greatest measure) = (1 ≤ k) × (k ≤ KEEP_LIMIT) × (measure < measures)
+
+pub record IsWithinLimits (checked : PlainChecked) : Type 0 where
+  pub few_columns : length checked.columns ≤ COLUMN_LIMIT
+  pub few_labels : length checked.labels ≤ LABEL_LIMIT
+  -- assignments alone have labels
+  pub assigned : (checked.shape ≡ Assign) ↔ (1 ≤ length checked.labels)
+  pub few_measures : length checked.measures ≤ length checked.columns + MEASURE_LIMIT
+  pub measures : All (IsMeasureWithin (length checked.columns) (length checked.labels)) checked.measures
+  pub few_tests : length checked.tests ≤ TEST_LIMIT
+  pub tests : All (IsTestWithin (length checked.columns) (length checked.labels) (length checked.measures)) checked.tests
+  pub goal : IsGoalWithin (length checked.measures) checked.goal

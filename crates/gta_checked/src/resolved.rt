@@ -1,0 +1,69 @@
+//! The parts of a checked specification. Columns, labels, measures, tables and elements are numbered in their
+//! declared order from 0; the measures are the columns, followed by the declared measures.
+
+use gta_spec::{Check, Cmp};
+
+/// A number, or a factor times a column.
+#[derive(Clone, Copy, PartialEq, Eq, Debug)]
+pub struct Term {
+    pub factor: i64,
+    pub column: Option<u32>,
+}
+
+/// What a condition asks of a row and its label.
+#[derive(Clone, Copy, PartialEq, Eq, Debug)]
+pub enum Atom {
+    Label(u32),
+    Column { column: u32, cmp: Cmp, number: i64 },
+}
+
+/// A linear form, and the atoms of its condition. No atoms: it always holds.
+#[derive(Debug, Drop)]
+pub struct Case {
+    pub form: Vec<Term>,
+    pub cond: Vec<Atom>,
+}
+
+/// A measure's cases; the first whose condition holds counts.
+#[derive(Debug, Drop)]
+pub struct Measure {
+    pub cases: Vec<Case>,
+}
+
+/// An element, and the atoms of its condition. No atoms: it always holds.
+#[derive(Debug, Drop)]
+pub struct Pick {
+    pub element: u32,
+    pub cond: Vec<Atom>,
+}
+
+/// What a candidate must pass.
+#[derive(Debug, Drop)]
+pub enum Test {
+    Sum {
+        measure: u32,
+        check: Check,
+    },
+    Length {
+        check: Check,
+    },
+    Fold {
+        table: u32,
+        picks: Vec<Pick>,
+        accept: Vec<u32>,
+    },
+}
+
+/// What is asked of the candidates that pass.
+#[derive(Clone, Copy, PartialEq, Eq, Debug)]
+pub enum Goal {
+    Count,
+    Any,
+    Max(u32),
+    Min(u32),
+    Best {
+        k: u32,
+        greatest: bool,
+        measure: u32,
+    },
+}

@@ -1,0 +1,62 @@
+-- The faults of a specification in their order.
+use Rattle.std.specs.Prelude.{◌≡◌, ℕ, List, Option, Some, None, option_map, if◌then◌else◌, codes}
+use Rattle.std.specs.List.{list_any}
+use Rattle.gta_spec.specs.Parts.{PartTree, SpecTree}
+use Rattle.spec_rules.specs.declared.fault.SinglePart.{SinglePart}
+use Rattle.spec_rules.specs.declared.fault.SinglePart.TheVariants as singles
+use Rattle.spec_rules.specs.declared.fault.Limit.{Limit}
+use Rattle.spec_rules.specs.declared.fault.Limit.TheVariants as limits
+use Rattle.spec_rules.specs.declared.fault.RuleFault.{RuleFault}
+use Rattle.spec_rules.specs.declared.fault.RuleFault.TheVariants as rules
+use Rattle.spec_rules.specs.SpecRules.{or_else, rule_fault, is_table}
+use Rattle.gta_types.specs.declared.fault.CheckFault.{CheckFault}
+use Rattle.gta_types.specs.declared.fault.CheckFault.TheVariants as faults
+use Rattle.gta_types.specs.Names.{declarations, declared_twice, unknown_use}
+
+-- the word of a part
+abbrev pub part_word : SinglePart → List ℕ
+part_word singles.Columns = codes "columns"
+part_word singles.Labels = codes "labels"
+part_word singles.Generate = codes "generate"
+part_word singles.Aggregate = codes "aggregate"
+
+-- the word of a limit
+abbrev pub limit_word : Limit → List ℕ
+limit_word limits.Name = codes "name"
+limit_word limits.Header = codes "header"
+limit_word limits.Columns = codes "columns"
+limit_word limits.Labels = codes "labels"
+limit_word limits.Measures = codes "measures"
+limit_word limits.Tables = codes "tables"
+limit_word limits.Tests = codes "tests"
+limit_word limits.Elements = codes "elements"
+limit_word limits.Cases = codes "cases"
+limit_word limits.Terms = codes "terms"
+limit_word limits.Atoms = codes "atoms"
+limit_word limits.Factor = codes "factor"
+limit_word limits.Bound = codes "bound"
+limit_word limits.Modulus = codes "modulus"
+limit_word limits.Residue = codes "residue"
+limit_word limits.Kept = codes "k"
+
+abbrev pub fault_of_rule : RuleFault → CheckFault
+fault_of_rule (rules.Missing part) = faults.Missing (part_word part)
+fault_of_rule (rules.SecondPart line part) = faults.SecondPart line (part_word part)
+fault_of_rule (rules.LabelsAssign line assign) = faults.LabelsAssign line assign
+fault_of_rule (rules.Limit line limit) = faults.Limit line (limit_word limit)
+
+-- a table, which is not built yet
+abbrev pub unbuilt : List PartTree → Option CheckFault
+unbuilt parts = if list_any (λ part. is_table part.kind) parts then Some faults.Unbuilt else None
+
+-- the first fault of a specification, or none: an unknown name, a name declared twice, a broken rule, a table
+unfoldable pub check_fault : SpecTree → Option CheckFault
+check_fault spec =
+    or_else (option_map (λ u. faults.Unknown u.line u.name) (unknown_use spec.parts))
+    (or_else (option_map (λ d. faults.Twice d.line d.name) (declared_twice (declarations spec.parts)))
+    (or_else (option_map fault_of_rule (rule_fault spec)) (unbuilt spec.parts)))
+
+-- an end without a checked specification carries its first fault; want of memory is free
+abbrev pub IsFaultOf : SpecTree → CheckFault → Type 0
+IsFaultOf spec faults.Memory = Unit {0}
+IsFaultOf spec fault = check_fault spec ≡ Some fault

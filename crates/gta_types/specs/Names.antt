@@ -1,0 +1,176 @@
+-- The names that a specification declares and uses.
+use Rattle.std.specs.Prelude.{ℕ, Bool, true, false, ◌&&◌, ◌||◌, not, List, [], ◌∷◌, ◌++◌, map, nat_eq, Option, Some, None}
+use Rattle.std.specs.Prelude.{if◌then◌else◌}
+use Rattle.std.specs.Str.{bytes_eq}
+use Rattle.std.specs.List.{list_any, find, flat_map}
+use Rattle.gta_spec.specs.declared.parts.AtomPart.{AtomPart}
+use Rattle.gta_spec.specs.declared.parts.AtomPart.TheVariants as atoms
+use Rattle.gta_spec.specs.declared.parts.GoalPart.{GoalPart}
+use Rattle.gta_spec.specs.declared.parts.GoalPart.TheVariants as goals
+use Rattle.gta_spec.specs.Parts.{CaseTree, PickTree, TestTree, Sum, Length, Fold, KindTree, Columns, Labels, Measure, Table}
+use Rattle.gta_spec.specs.Parts.{Times, Test, Aggregate, PartTree}
+use Rattle.spec_rules.specs.SpecRules.{first_answer}
+
+-- what a name is declared as
+pub data NameKind : Type 0 where
+  AColumn : NameKind
+  ALabel : NameKind
+  AMeasure : NameKind
+  ATable : NameKind
+  AnElement : NameKind
+
+-- a name, what it is declared as, and the line that does so
+pub record Declaration : Type 0 where
+  pub line : ℕ
+  pub name : List ℕ
+  pub kind : NameKind
+
+abbrev pub declare : ℕ → NameKind → List ℕ → Declaration
+declare line kind name = record { line = line; name = name; kind = kind }
+
+-- the names that a line declares, in their order
+abbrev pub declarations_of : ℕ → KindTree → List Declaration
+declarations_of line (Columns items) = map (λ item. declare line AColumn item.name) items
+declarations_of line (Labels names) = map (declare line ALabel) names
+declarations_of line (Measure part) = declare line AMeasure part.name ∷ []
+declarations_of line (Table part) = declare line ATable part.name ∷ map (declare line AnElement) part.elements
+declarations_of line _ = []
+
+-- the names that a specification declares, by line and place
+abbrev pub declarations : List PartTree → List Declaration
+declarations parts = flat_map (λ part. declarations_of part.line part.kind) parts
+
+abbrev pub is_element : NameKind → Bool
+is_element AnElement = true
+is_element _ = false
+
+-- whether two names may not be the same: the elements of one table, which stand on one line, or names that are no elements
+abbrev pub share_names : Declaration → Declaration → Bool
+share_names a b =
+    if is_element a.kind then is_element b.kind && nat_eq a.line b.line else not (is_element b.kind)
+
+-- the first name that is declared twice, where it is declared the second time
+abbrev pub declared_twice : List Declaration → Option Declaration
+declared_twice all = first_answer again [] all
+  where
+    again : List Declaration → Declaration → Option Declaration
+    again before d = if list_any (λ e. share_names e d && bytes_eq e.name d.name) before then Some d else None
+
+-- the first declaration of a name, elements left out
+abbrev pub declaration_of : List Declaration → List ℕ → Option Declaration
+declaration_of all x = find (λ d. not (is_element d.kind) && bytes_eq d.name x) all
+
+abbrev pub kind_of : Option Declaration → Option NameKind
+kind_of None = None
+kind_of (Some d) = Some d.kind
+
+-- what a name is used as
+pub data Wanted : Type 0 where
+  Column : Wanted
+  Label : Wanted
+  -- a measure, or a column used as one
+  Weight : Wanted
+  TableName : Wanted
+  -- an element of the table of this name; passed over where that is no table
+  ElementOf : List ℕ → Wanted
+  -- one of these names
+  OneOf : List (List ℕ) → Wanted
+
+pub record Use : Type 0 where
+  pub line : ℕ
+  pub name : List ℕ
+  pub wanted : Wanted
+
+abbrev pub use_as : ℕ → Wanted → List ℕ → Use
+use_as line wanted name = record { line = line; name = name; wanted = wanted }
+
+abbrev pub uses_of_term : ℕ → Option (List ℕ) → List Use
+uses_of_term line None = []
+uses_of_term line (Some x) = use_as line Column x ∷ []
+
+abbrev pub use_of_atom : ℕ → AtomPart → Use
+use_of_atom line (atoms.Label x) = use_as line Label x
+use_of_atom line (atoms.Column x cmp number) = use_as line Column x
+
+abbrev pub uses_of_case : ℕ → CaseTree → List Use
+uses_of_case line case = flat_map (λ term. uses_of_term line term.name) case.form ++ map (use_of_atom line) case.cond
+
+abbrev pub uses_of_pick : ℕ → List ℕ → PickTree → List Use
+uses_of_pick line table pick = use_as line (ElementOf table) pick.element ∷ map (use_of_atom line) pick.cond
+
+abbrev pub uses_of_test : ℕ → TestTree → List Use
+uses_of_test line (Sum x check) = use_as line Weight x ∷ []
+uses_of_test line (Length check) = []
+uses_of_test line (Fold table picks accept) =
+    use_as line TableName table
+    ∷ (flat_map (uses_of_pick line table) picks ++ map (use_as line (ElementOf table)) accept)
+
+abbrev pub uses_of_goal : ℕ → GoalPart → List Use
+uses_of_goal line goals.Count = []
+uses_of_goal line goals.Any = []
+uses_of_goal line (goals.Max x) = use_as line Weight x ∷ []
+uses_of_goal line (goals.Min x) = use_as line Weight x ∷ []
+uses_of_goal line (goals.Best k greatest x) = use_as line Weight x ∷ []
+
+-- the names that a line uses, in their order
+abbrev pub uses_of : ℕ → KindTree → List Use
+uses_of line (Measure part) = flat_map (uses_of_case line) part.cases
+uses_of line (Table part) = use_as line (OneOf part.elements) part.unit ∷ []
+uses_of line (Times part) =
+    use_as line TableName part.table ∷ map (use_as line (ElementOf part.table)) (part.element ∷ part.products)
+uses_of line (Test test) = uses_of_test line test
+uses_of line (Aggregate goal) = uses_of_goal line goal
+uses_of line _ = []
+
+-- the names that a specification uses, by line and place
+abbrev pub uses : List PartTree → List Use
+uses parts = flat_map (λ part. uses_of part.line part.kind) parts
+
+abbrev pub is_one_of : List (List ℕ) → List ℕ → Bool
+is_one_of names x = list_any (λ name. bytes_eq name x) names
+
+-- the elements of the table of a name, where it is the name of a table
+abbrev pub table_elements : KindTree → List ℕ → Option (List (List ℕ))
+table_elements (Table part) x = if bytes_eq part.name x then Some part.elements else None
+table_elements _ x = None
+
+abbrev pub elements_of : List PartTree → List ℕ → List (List ℕ)
+elements_of parts x = first_elements (first_answer (λ before part. table_elements part.kind x) [] parts)
+  where
+    first_elements : Option (List (List ℕ)) → List (List ℕ)
+    first_elements None = []
+    first_elements (Some elements) = elements
+
+abbrev pub is_column : Option NameKind → Bool
+is_column (Some AColumn) = true
+is_column _ = false
+
+abbrev pub is_label : Option NameKind → Bool
+is_label (Some ALabel) = true
+is_label _ = false
+
+abbrev pub is_measure : Option NameKind → Bool
+is_measure (Some AMeasure) = true
+is_measure _ = false
+
+abbrev pub is_table : Option NameKind → Bool
+is_table (Some ATable) = true
+is_table _ = false
+
+-- what a name was first declared as, elements left out
+abbrev pub declared_as : List PartTree → List ℕ → Option NameKind
+declared_as parts x = kind_of (declaration_of (declarations parts) x)
+
+-- whether a name is declared for a use
+abbrev pub is_known : List PartTree → Wanted → List ℕ → Bool
+is_known parts Column x = is_column (declared_as parts x)
+is_known parts Label x = is_label (declared_as parts x)
+is_known parts Weight x = is_column (declared_as parts x) || is_measure (declared_as parts x)
+is_known parts TableName x = is_table (declared_as parts x)
+is_known parts (ElementOf table) x =
+    if is_table (declared_as parts table) then is_one_of (elements_of parts table) x else true
+is_known parts (OneOf names) x = is_one_of names x
+
+-- the first use of a name that isn't declared for it
+abbrev pub unknown_use : List PartTree → Option Use
+unknown_use parts = find (λ u. not (is_known parts u.wanted u.name)) (uses parts)

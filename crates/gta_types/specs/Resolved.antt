@@ -1,0 +1,137 @@
+-- A specification with each name replaced by its number.
+use Rattle.std.specs.Prelude.{◌≡◌, ℕ, Bool, true, false, ℤ, pos, neg_ℤ, List, [], ◌∷◌, ◌++◌, map, length, Option, Some, None}
+use Rattle.std.specs.Prelude.{option_map}
+use Rattle.std.specs.Str.{bytes_eq}
+use Rattle.std.specs.List.{flat_map, position_or_len, range_with_len}
+use Rattle.shape_gen.specs.declared.shape.Shape.{Shape}
+use Rattle.gta_spec.specs.declared.parts.AtomPart.{AtomPart}
+use Rattle.gta_spec.specs.declared.parts.AtomPart.TheVariants as atom_parts
+use Rattle.gta_spec.specs.declared.parts.ColumnItem.{ColumnItem}
+use Rattle.gta_spec.specs.declared.parts.GoalPart.{GoalPart}
+use Rattle.gta_spec.specs.declared.parts.GoalPart.TheVariants as goal_parts
+use Rattle.gta_spec.specs.declared.parts.TermPart.{TermPart}
+use Rattle.gta_spec.specs.Parts.{CaseTree, PickTree, TestTree, Sum, Length, Fold, KindTree, Columns, Labels, Measure, Table}
+use Rattle.gta_spec.specs.Parts.{Generate, Test, Aggregate, PartTree, SpecTree}
+use Rattle.gta_checked.specs.declared.resolved.Term.{Term}
+use Rattle.gta_checked.specs.declared.resolved.Atom.{Atom}
+use Rattle.gta_checked.specs.declared.resolved.Atom.TheVariants as atoms
+use Rattle.gta_checked.specs.declared.resolved.Goal.{Goal}
+use Rattle.gta_checked.specs.declared.resolved.Goal.TheVariants as goals
+use Rattle.gta_checked.specs.Plain.{PlainCase, PlainPick, PlainTest, PlainChecked}
+use Rattle.gta_checked.specs.Plain as plain
+use Rattle.gta_types.specs.Names.{elements_of}
+
+-- the number of a name among these, from 0
+abbrev pub number_of : List (List ℕ) → List ℕ → ℕ
+number_of names x = position_or_len (λ name. bytes_eq name x) names
+
+abbrev pub column_items : KindTree → List ColumnItem
+column_items (Columns items) = items
+column_items _ = []
+
+abbrev pub label_names : KindTree → List (List ℕ)
+label_names (Labels names) = names
+label_names _ = []
+
+abbrev pub measure_names : KindTree → List (List ℕ)
+measure_names (Measure part) = part.name ∷ []
+measure_names _ = []
+
+abbrev pub table_names : KindTree → List (List ℕ)
+table_names (Table part) = part.name ∷ []
+table_names _ = []
+
+-- the declared names of a specification, each kind in its order
+pub record Environment : Type 0 where
+  pub parts : List PartTree
+  pub columns : List (List ℕ)
+  pub labels : List (List ℕ)
+  pub measures : List (List ℕ)
+  pub tables : List (List ℕ)
+
+abbrev pub environment : List PartTree → Environment
+environment parts = record {
+  parts = parts;
+  columns = map (λ item. item.name) (flat_map (λ part. column_items part.kind) parts);
+  labels = flat_map (λ part. label_names part.kind) parts;
+  measures = flat_map (λ part. measure_names part.kind) parts;
+  tables = flat_map (λ part. table_names part.kind) parts;
+}
+
+abbrev pub signed : Bool → ℕ → ℤ
+signed true number = neg_ℤ (pos number)
+signed false number = pos number
+
+-- a number that isn't written is 1
+abbrev pub factor_of : Option ℕ → ℕ
+factor_of None = 1
+factor_of (Some number) = number
+
+abbrev pub resolved_term : Environment → TermPart → Term
+resolved_term env term = record {
+  factor = signed term.minus (factor_of term.number);
+  column = option_map (number_of env.columns) term.name;
+}
+
+abbrev pub resolved_atom : Environment → AtomPart → Atom
+resolved_atom env (atom_parts.Label x) = atoms.Label (number_of env.labels x)
+resolved_atom env (atom_parts.Column x cmp number) = atoms.Column (number_of env.columns x) cmp number
+
+abbrev pub resolved_case : Environment → CaseTree → PlainCase
+resolved_case env case = record { form = map (resolved_term env) case.form; cond = map (resolved_atom env) case.cond }
+
+abbrev pub resolved_pick : Environment → List (List ℕ) → PickTree → PlainPick
+resolved_pick env elements pick = record {
+  element = number_of elements pick.element;
+  cond = map (resolved_atom env) pick.cond;
+}
+
+-- a column's name used as a measure, and after the columns the declared measures
+abbrev pub number_of_weight : Environment → List ℕ → ℕ
+number_of_weight env x = number_of (env.columns ++ env.measures) x
+
+abbrev pub resolved_test : Environment → TestTree → PlainTest
+resolved_test env (Sum x check) = plain.Sum (number_of_weight env x) check
+resolved_test env (Length check) = plain.Length check
+resolved_test env (Fold table picks accept) =
+    plain.Fold (number_of env.tables table) (map (resolved_pick env (elements_of env.parts table)) picks)
+    (map (number_of (elements_of env.parts table)) accept)
+
+abbrev pub resolved_goal : Environment → GoalPart → Goal
+resolved_goal env goal_parts.Count = goals.Count
+resolved_goal env goal_parts.Any = goals.Any
+resolved_goal env (goal_parts.Max x) = goals.Max (number_of_weight env x)
+resolved_goal env (goal_parts.Min x) = goals.Min (number_of_weight env x)
+resolved_goal env (goal_parts.Best k greatest x) = goals.Best k greatest (number_of_weight env x)
+
+-- the measure of a column: its cell
+abbrev pub column_measure : ℕ → List PlainCase
+column_measure column = record { form = record { factor = pos 1; column = Some column } ∷ []; cond = [] } ∷ []
+
+abbrev pub declared_measures : Environment → KindTree → List (List PlainCase)
+declared_measures env (Measure part) = map (resolved_case env) part.cases ∷ []
+declared_measures env _ = []
+
+abbrev pub tests_of : Environment → KindTree → List PlainTest
+tests_of env (Test test) = resolved_test env test ∷ []
+tests_of env _ = []
+
+abbrev pub shapes_of : KindTree → List Shape
+shapes_of (Generate shape) = shape ∷ []
+shapes_of _ = []
+
+abbrev pub goals_of : Environment → KindTree → List Goal
+goals_of env (Aggregate goal) = resolved_goal env goal ∷ []
+goals_of env _ = []
+
+-- the specification with its names resolved
+pub record IsResolved (spec : SpecTree) (checked : PlainChecked) : Type 0 where
+  pub version : checked.version ≡ spec.version
+  pub columns : checked.columns ≡ flat_map (λ part. column_items part.kind) spec.parts
+  pub labels : checked.labels ≡ (environment spec.parts).labels
+  -- a measure for each column, then the declared measures
+  pub measures : checked.measures ≡ map column_measure (range_with_len 0 (length checked.columns))
+      ++ flat_map (λ part. declared_measures (environment spec.parts) part.kind) spec.parts
+  pub tests : checked.tests ≡ flat_map (λ part. tests_of (environment spec.parts) part.kind) spec.parts
+  pub shape : checked.shape ∷ [] ≡ flat_map (λ part. shapes_of part.kind) spec.parts
+  pub goal : checked.goal ∷ [] ≡ flat_map (λ part. goals_of (environment spec.parts) part.kind) spec.parts

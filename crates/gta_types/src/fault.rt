@@ -1,0 +1,24 @@
+//! Why a specification is not accepted.
+
+use gta_text::Name;
+
+/// The first fault of a specification. Lines are numbered from 1.
+#[derive(Debug, Drop)]
+pub enum CheckFault {
+    /// This line uses a name that isn't declared for that use.
+    Unknown { line: u32, name: Name },
+    /// This line declares a name that is declared before it.
+    Twice { line: u32, name: Name },
+    /// There is no line `columns`, `generate` or `aggregate`.
+    Missing { part: Name },
+    /// This line is the second `columns`, `labels`, `generate` or `aggregate`.
+    SecondPart { line: u32, part: Name },
+    /// `generate assign` without `labels`, on its line, or `labels` without `generate assign`, on its line.
+    LabelsAssign { line: u32, assign: bool },
+    /// This line passes this limit.
+    Limit { line: u32, limit: Name },
+    /// There is a table, and tables are not built yet.
+    Unbuilt,
+    /// Memory was wanting.
+    Memory,
+}

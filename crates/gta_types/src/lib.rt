@@ -1,0 +1,9 @@
+//! Checks a specification and resolves its names to numbers. Which names are declared and used is in specs/Names.antt,
+//! what a name becomes is in specs/Resolved.antt, and the faults in their order are in specs/Faults.antt.
+#![tactic(auto)]
+
+mod checking;
+mod fault;
+
+pub use checking::check;
+pub use fault::CheckFault;

@@ -1,0 +1,233 @@
+-- The rules of a specification that need no name looked up, in their order.
+use Rattle.std.specs.Prelude.{ℕ, Bool, true, false, ◌&&◌, ◌||◌, not, pos, List, [], ◌∷◌, ◌++◌, map, filter, length}
+use Rattle.std.specs.Prelude.{nat_lt, nat_le, Option, Some, None, option_map}
+use Rattle.std.specs.List.{list_any, find, flat_map}
+use Rattle.std.specs.Int.RustNames.{int_lt}
+use Rattle.shape_gen.specs.declared.shape.Shape.TheVariants.{Assign}
+use Rattle.gta_spec.specs.declared.limits.TheConstants.{NAME_LIMIT, HEADER_LIMIT, COLUMN_LIMIT, LABEL_LIMIT, MEASURE_LIMIT}
+use Rattle.gta_spec.specs.declared.limits.TheConstants.{TABLE_LIMIT, TEST_LIMIT, ELEMENT_LIMIT, CASE_LIMIT, TERM_LIMIT}
+use Rattle.gta_spec.specs.declared.limits.TheConstants.{ATOM_LIMIT, FACTOR_LIMIT, BOUND_LIMIT, MODULUS_LIMIT, KEEP_LIMIT}
+use Rattle.gta_spec.specs.declared.parts.AtomPart.{AtomPart}
+use Rattle.gta_spec.specs.declared.parts.ColumnItem.{ColumnItem}
+use Rattle.gta_spec.specs.declared.parts.TermPart.{TermPart}
+use Rattle.gta_spec.specs.declared.parts.Check.{Check}
+use Rattle.gta_spec.specs.declared.parts.Check.TheVariants.{Compare, Mod}
+use Rattle.gta_spec.specs.declared.parts.GoalPart.TheVariants as goals
+use Rattle.gta_spec.specs.Parts.{TestTree, Sum, Length, Fold, KindTree, Columns, Labels, Measure, Table}
+use Rattle.gta_spec.specs.Parts.{Times, Generate, Test, Aggregate, PartTree, SpecTree}
+use Rattle.spec_rules.specs.declared.fault.SinglePart.{SinglePart}
+use Rattle.spec_rules.specs.declared.fault.SinglePart.TheVariants as singles
+use Rattle.spec_rules.specs.declared.fault.Limit.{Limit}
+use Rattle.spec_rules.specs.declared.fault.Limit.TheVariants as limits
+use Rattle.spec_rules.specs.declared.fault.RuleFault.{RuleFault}
+use Rattle.spec_rules.specs.declared.fault.RuleFault.TheVariants as faults
+
+-- the first of two, where there is one
+abbrev pub or_else : {A : Type 0} → Option A → Option A → Option A
+or_else None second = second
+or_else (Some first) second = Some first
+
+-- the first answer that an item gets, each asked beside the items before it
+abbrev pub first_answer : {A B : Type 0} → (List A → A → Option B) → List A → List A → Option B
+first_answer ask before [] = None
+first_answer ask before (x ∷ xs) = or_else (ask before x) (first_answer ask (before ++ (x ∷ [])) xs)
+
+-- the part that stands at most once, where a line is one
+abbrev pub single_of : KindTree → Option SinglePart
+single_of (Columns items) = Some singles.Columns
+single_of (Labels names) = Some singles.Labels
+single_of (Measure part) = None
+single_of (Table part) = None
+single_of (Times part) = None
+single_of (Generate shape) = Some singles.Generate
+single_of (Test test) = None
+single_of (Aggregate goal) = Some singles.Aggregate
+
+abbrev pub same_single : SinglePart → SinglePart → Bool
+same_single singles.Columns singles.Columns = true
+same_single singles.Labels singles.Labels = true
+same_single singles.Generate singles.Generate = true
+same_single singles.Aggregate singles.Aggregate = true
+same_single _ _ = false
+
+abbrev pub is_the : SinglePart → Option SinglePart → Bool
+is_the part None = false
+is_the part (Some other) = same_single part other
+
+-- whether a line is this part
+abbrev pub is_single : SinglePart → PartTree → Bool
+is_single part line = is_the part (single_of line.kind)
+
+-- the first part that must stand and doesn't
+abbrev pub missing : List PartTree → Option SinglePart
+missing parts = find (λ part. not (list_any (is_single part) parts)) (singles.Columns ∷ singles.Generate ∷ singles.Aggregate ∷ [])
+
+-- the part that a line repeats
+abbrev pub repeated : List PartTree → PartTree → Option SinglePart
+repeated before line =
+    find (λ part. is_single part line && list_any (is_single part) before)
+    (singles.Columns ∷ singles.Labels ∷ singles.Generate ∷ singles.Aggregate ∷ [])
+
+-- the first line that repeats a part
+abbrev pub second_part : List PartTree → Option RuleFault
+second_part parts = first_answer (λ before line. option_map (faults.SecondPart line.line) (repeated before line)) [] parts
+
+abbrev pub is_assign : KindTree → Bool
+is_assign (Generate Assign) = true
+is_assign _ = false
+
+-- assignments without labels, or labels without assignments
+abbrev pub labels_assign_of : Option PartTree → Option PartTree → Option RuleFault
+labels_assign_of None None = None
+labels_assign_of (Some assign) (Some labels) = None
+labels_assign_of (Some assign) None = Some (faults.LabelsAssign assign.line true)
+labels_assign_of None (Some labels) = Some (faults.LabelsAssign labels.line false)
+
+abbrev pub labels_assign : List PartTree → Option RuleFault
+labels_assign parts =
+    labels_assign_of (find (λ line. is_assign line.kind) parts) (find (is_single singles.Labels) parts)
+
+-- the names that a line declares
+abbrev pub declared_names : KindTree → List (List ℕ)
+declared_names (Columns items) = map (λ item. item.name) items
+declared_names (Labels names) = names
+declared_names (Measure part) = part.name ∷ []
+declared_names (Table part) = part.name ∷ part.elements
+declared_names _ = []
+
+-- the header texts that a line has
+abbrev pub header_of : ColumnItem → List (List ℕ)
+header_of item = header_list item.header
+  where
+    header_list : Option (List ℕ) → List (List ℕ)
+    header_list None = []
+    header_list (Some text) = text ∷ []
+
+abbrev pub headers : KindTree → List (List ℕ)
+headers (Columns items) = flat_map header_of items
+headers _ = []
+
+-- the linear forms of a line
+abbrev pub forms : KindTree → List (List TermPart)
+forms (Measure part) = map (λ case. case.form) part.cases
+forms _ = []
+
+-- the conditions of a test's picks
+abbrev pub test_conditions : TestTree → List (List AtomPart)
+test_conditions (Sum name check) = []
+test_conditions (Length check) = []
+test_conditions (Fold table picks accept) = map (λ pick. pick.cond) picks
+
+-- the conditions of a line: of a measure's cases, or of a fold's picks
+abbrev pub conditions : KindTree → List (List AtomPart)
+conditions (Measure part) = map (λ case. case.cond) part.cases
+conditions (Test test) = test_conditions test
+conditions _ = []
+
+-- whether a factor before a column is past its limit
+abbrev pub is_factor_past : Option ℕ → Option (List ℕ) → Bool
+is_factor_past (Some number) (Some name) = nat_lt FACTOR_LIMIT number
+is_factor_past _ _ = false
+
+-- the check of a test's sum or length
+abbrev pub test_checks : TestTree → List Check
+test_checks (Sum name check) = check ∷ []
+test_checks (Length check) = check ∷ []
+test_checks (Fold table picks accept) = []
+
+abbrev pub checks : KindTree → List Check
+checks (Test test) = test_checks test
+checks _ = []
+
+abbrev pub is_bound_past : Check → Bool
+is_bound_past (Compare cmp number) = int_lt number (pos 0) || int_lt (pos BOUND_LIMIT) number
+is_bound_past (Mod modulus residue) = false
+
+abbrev pub is_modulus_past : Check → Bool
+is_modulus_past (Compare cmp number) = false
+is_modulus_past (Mod modulus residue) = nat_lt modulus 1 || nat_lt MODULUS_LIMIT modulus
+
+abbrev pub is_residue_past : Check → Bool
+is_residue_past (Compare cmp number) = false
+is_residue_past (Mod modulus residue) = nat_le modulus residue
+
+abbrev pub is_kept_past : KindTree → Bool
+is_kept_past (Aggregate (goals.Best k greatest name)) = nat_lt k 1 || nat_lt KEEP_LIMIT k
+is_kept_past _ = false
+
+abbrev pub is_longer : {A : Type 0} → ℕ → List A → Bool
+is_longer limit xs = nat_lt limit (length xs)
+
+abbrev pub is_measure : KindTree → Bool
+is_measure (Measure part) = true
+is_measure _ = false
+
+abbrev pub is_table : KindTree → Bool
+is_table (Table part) = true
+is_table _ = false
+
+abbrev pub is_test : KindTree → Bool
+is_test (Test test) = true
+is_test _ = false
+
+-- whether a line comes after as many of its kind as there may be
+abbrev pub is_one_too_many : (KindTree → Bool) → ℕ → List PartTree → KindTree → Bool
+is_one_too_many is_kind limit before kind = is_kind kind && nat_le limit (length (filter (λ line. is_kind line.kind) before))
+
+abbrev pub are_columns_past : KindTree → Bool
+are_columns_past (Columns items) = is_longer COLUMN_LIMIT items
+are_columns_past _ = false
+
+abbrev pub are_labels_past : KindTree → Bool
+are_labels_past (Labels names) = is_longer LABEL_LIMIT names
+are_labels_past _ = false
+
+abbrev pub are_elements_past : KindTree → Bool
+are_elements_past (Table part) = is_longer ELEMENT_LIMIT part.elements
+are_elements_past _ = false
+
+abbrev pub are_picks_past : TestTree → Bool
+are_picks_past (Fold table picks accept) = is_longer CASE_LIMIT picks
+are_picks_past _ = false
+
+abbrev pub are_cases_past : KindTree → Bool
+are_cases_past (Measure part) = is_longer CASE_LIMIT part.cases
+are_cases_past (Test test) = are_picks_past test
+are_cases_past _ = false
+
+-- whether a line, beside the lines before it, passes a limit
+abbrev pub is_past : List PartTree → KindTree → Limit → Bool
+is_past before kind limits.Name = list_any (is_longer NAME_LIMIT) (declared_names kind)
+is_past before kind limits.Header = list_any (is_longer HEADER_LIMIT) (headers kind)
+is_past before kind limits.Columns = are_columns_past kind
+is_past before kind limits.Labels = are_labels_past kind
+is_past before kind limits.Measures = is_one_too_many is_measure MEASURE_LIMIT before kind
+is_past before kind limits.Tables = is_one_too_many is_table TABLE_LIMIT before kind
+is_past before kind limits.Tests = is_one_too_many is_test TEST_LIMIT before kind
+is_past before kind limits.Elements = are_elements_past kind
+is_past before kind limits.Cases = are_cases_past kind
+is_past before kind limits.Terms = list_any (is_longer TERM_LIMIT) (forms kind)
+is_past before kind limits.Atoms = list_any (is_longer ATOM_LIMIT) (conditions kind)
+is_past before kind limits.Factor = list_any (list_any (λ term. is_factor_past term.number term.name)) (forms kind)
+is_past before kind limits.Bound = list_any is_bound_past (checks kind)
+is_past before kind limits.Modulus = list_any is_modulus_past (checks kind)
+is_past before kind limits.Residue = list_any is_residue_past (checks kind)
+is_past before kind limits.Kept = is_kept_past kind
+
+-- the limits in their order
+abbrev pub all_limits : List Limit
+all_limits =
+    limits.Name ∷ limits.Header ∷ limits.Columns ∷ limits.Labels ∷ limits.Measures ∷ limits.Tables ∷ limits.Tests
+    ∷ limits.Elements ∷ limits.Cases ∷ limits.Terms ∷ limits.Atoms ∷ limits.Factor ∷ limits.Bound ∷ limits.Modulus
+    ∷ limits.Residue ∷ limits.Kept ∷ []
+
+-- the first line that passes a limit, and the first limit that it passes
+abbrev pub limit_fault : List PartTree → Option RuleFault
+limit_fault parts =
+    first_answer (λ before line. option_map (faults.Limit line.line) (find (is_past before line.kind) all_limits)) [] parts
+
+-- the first rule that the specification breaks
+unfoldable pub rule_fault : SpecTree → Option RuleFault
+rule_fault spec =
+    or_else (option_map faults.Missing (missing spec.parts))
+    (or_else (second_part spec.parts) (or_else (labels_assign spec.parts) (limit_fault spec.parts)))
