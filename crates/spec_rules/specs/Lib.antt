@@ -1,1 +1,2 @@
 pub mod SpecRules
+pub mod Seen

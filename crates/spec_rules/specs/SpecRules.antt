@@ -8,12 +8,11 @@ use Rattle.gta_spec.specs.declared.limits.TheConstants.{NAME_LIMIT, HEADER_LIMIT
 use Rattle.gta_spec.specs.declared.limits.TheConstants.{TABLE_LIMIT, TEST_LIMIT, ELEMENT_LIMIT, CASE_LIMIT, TERM_LIMIT}
 use Rattle.gta_spec.specs.declared.limits.TheConstants.{ATOM_LIMIT, FACTOR_LIMIT, BOUND_LIMIT, MODULUS_LIMIT, KEEP_LIMIT}
 use Rattle.gta_spec.specs.declared.parts.AtomPart.{AtomPart}
-use Rattle.gta_spec.specs.declared.parts.ColumnItem.{ColumnItem}
 use Rattle.gta_spec.specs.declared.parts.TermPart.{TermPart}
 use Rattle.gta_spec.specs.declared.parts.Check.{Check}
 use Rattle.gta_spec.specs.declared.parts.Check.TheVariants.{Compare, Mod}
 use Rattle.gta_spec.specs.declared.parts.GoalPart.TheVariants as goals
-use Rattle.gta_spec.specs.Parts.{TestTree, Sum, Length, Fold, KindTree, Columns, Labels, Measure, Table}
+use Rattle.gta_spec.specs.Parts.{CaseTree, PickTree, TestTree, Sum, Length, Fold, KindTree, Columns, Labels, Measure, Table}
 use Rattle.gta_spec.specs.Parts.{Times, Generate, Test, Aggregate, PartTree, SpecTree}
 use Rattle.spec_rules.specs.declared.fault.SinglePart.{SinglePart}
 use Rattle.spec_rules.specs.declared.fault.SinglePart.TheVariants as singles
@@ -68,24 +67,32 @@ repeated before line =
     find (λ part. is_single part line && list_any (is_single part) before)
     (singles.Columns ∷ singles.Labels ∷ singles.Generate ∷ singles.Aggregate ∷ [])
 
+-- the fault of a line that repeats a part
+abbrev pub second_at : List PartTree → PartTree → Option RuleFault
+second_at before line = option_map (faults.SecondPart line.line) (repeated before line)
+
 -- the first line that repeats a part
 abbrev pub second_part : List PartTree → Option RuleFault
-second_part parts = first_answer (λ before line. option_map (faults.SecondPart line.line) (repeated before line)) [] parts
+second_part parts = first_answer second_at [] parts
 
 abbrev pub is_assign : KindTree → Bool
 is_assign (Generate Assign) = true
 is_assign _ = false
 
+-- the number of the first line that a test holds of
+abbrev pub first_line : (PartTree → Bool) → List PartTree → Option ℕ
+first_line test parts = option_map (λ line. line.line) (find test parts)
+
 -- assignments without labels, or labels without assignments
-abbrev pub labels_assign_of : Option PartTree → Option PartTree → Option RuleFault
+abbrev pub labels_assign_of : Option ℕ → Option ℕ → Option RuleFault
 labels_assign_of None None = None
 labels_assign_of (Some assign) (Some labels) = None
-labels_assign_of (Some assign) None = Some (faults.LabelsAssign assign.line true)
-labels_assign_of None (Some labels) = Some (faults.LabelsAssign labels.line false)
+labels_assign_of (Some assign) None = Some (faults.LabelsAssign assign true)
+labels_assign_of None (Some labels) = Some (faults.LabelsAssign labels false)
 
 abbrev pub labels_assign : List PartTree → Option RuleFault
 labels_assign parts =
-    labels_assign_of (find (λ line. is_assign line.kind) parts) (find (is_single singles.Labels) parts)
+    labels_assign_of (first_line (λ line. is_assign line.kind) parts) (first_line (is_single singles.Labels) parts)
 
 -- the names that a line declares
 abbrev pub declared_names : KindTree → List (List ℕ)
@@ -95,39 +102,48 @@ declared_names (Measure part) = part.name ∷ []
 declared_names (Table part) = part.name ∷ part.elements
 declared_names _ = []
 
--- the header texts that a line has
-abbrev pub header_of : ColumnItem → List (List ℕ)
-header_of item = header_list item.header
-  where
-    header_list : Option (List ℕ) → List (List ℕ)
-    header_list None = []
-    header_list (Some text) = text ∷ []
+abbrev pub header_texts : Option (List ℕ) → List (List ℕ)
+header_texts None = []
+header_texts (Some text) = text ∷ []
 
+-- the header texts that a line has
 abbrev pub headers : KindTree → List (List ℕ)
-headers (Columns items) = flat_map header_of items
+headers (Columns items) = flat_map (λ item. header_texts item.header) items
 headers _ = []
+
+abbrev pub case_forms : List CaseTree → List (List TermPart)
+case_forms cases = map (λ case. case.form) cases
 
 -- the linear forms of a line
 abbrev pub forms : KindTree → List (List TermPart)
-forms (Measure part) = map (λ case. case.form) part.cases
+forms (Measure part) = case_forms part.cases
 forms _ = []
+
+abbrev pub case_conditions : List CaseTree → List (List AtomPart)
+case_conditions cases = map (λ case. case.cond) cases
+
+abbrev pub pick_conditions : List PickTree → List (List AtomPart)
+pick_conditions picks = map (λ pick. pick.cond) picks
 
 -- the conditions of a test's picks
 abbrev pub test_conditions : TestTree → List (List AtomPart)
 test_conditions (Sum name check) = []
 test_conditions (Length check) = []
-test_conditions (Fold table picks accept) = map (λ pick. pick.cond) picks
+test_conditions (Fold table picks accept) = pick_conditions picks
 
 -- the conditions of a line: of a measure's cases, or of a fold's picks
 abbrev pub conditions : KindTree → List (List AtomPart)
-conditions (Measure part) = map (λ case. case.cond) part.cases
+conditions (Measure part) = case_conditions part.cases
 conditions (Test test) = test_conditions test
 conditions _ = []
 
--- whether a factor before a column is past its limit
-abbrev pub is_factor_past : Option ℕ → Option (List ℕ) → Bool
-is_factor_past (Some number) (Some name) = nat_lt FACTOR_LIMIT number
-is_factor_past _ _ = false
+-- whether the number before a column is past the limit of factors
+abbrev pub is_quantity_past : Option ℕ → Option (List ℕ) → Bool
+is_quantity_past (Some number) (Some name) = nat_lt FACTOR_LIMIT number
+is_quantity_past _ _ = false
+
+abbrev pub is_factor_past : TermPart → Bool
+is_factor_past term = is_quantity_past term.number term.name
 
 -- the check of a test's sum or length
 abbrev pub test_checks : TestTree → List Check
@@ -170,9 +186,16 @@ abbrev pub is_test : KindTree → Bool
 is_test (Test test) = true
 is_test _ = false
 
--- whether a line comes after as many of its kind as there may be
-abbrev pub is_one_too_many : (KindTree → Bool) → ℕ → List PartTree → KindTree → Bool
-is_one_too_many is_kind limit before kind = is_kind kind && nat_le limit (length (filter (λ line. is_kind line.kind) before))
+-- how many lines of a kind there are
+abbrev pub count_of : (KindTree → Bool) → List PartTree → ℕ
+count_of is_kind lines = length (filter (λ line. is_kind line.kind) lines)
+
+-- how many lines before this one are of its kind, where that is one with a limit
+abbrev pub earlier : List PartTree → KindTree → ℕ
+earlier before (Measure part) = count_of is_measure before
+earlier before (Table part) = count_of is_table before
+earlier before (Test test) = count_of is_test before
+earlier before _ = 0
 
 abbrev pub are_columns_past : KindTree → Bool
 are_columns_past (Columns items) = is_longer COLUMN_LIMIT items
@@ -195,24 +218,24 @@ are_cases_past (Measure part) = is_longer CASE_LIMIT part.cases
 are_cases_past (Test test) = are_picks_past test
 are_cases_past _ = false
 
--- whether a line, beside the lines before it, passes a limit
-abbrev pub is_past : List PartTree → KindTree → Limit → Bool
-is_past before kind limits.Name = list_any (is_longer NAME_LIMIT) (declared_names kind)
-is_past before kind limits.Header = list_any (is_longer HEADER_LIMIT) (headers kind)
-is_past before kind limits.Columns = are_columns_past kind
-is_past before kind limits.Labels = are_labels_past kind
-is_past before kind limits.Measures = is_one_too_many is_measure MEASURE_LIMIT before kind
-is_past before kind limits.Tables = is_one_too_many is_table TABLE_LIMIT before kind
-is_past before kind limits.Tests = is_one_too_many is_test TEST_LIMIT before kind
-is_past before kind limits.Elements = are_elements_past kind
-is_past before kind limits.Cases = are_cases_past kind
-is_past before kind limits.Terms = list_any (is_longer TERM_LIMIT) (forms kind)
-is_past before kind limits.Atoms = list_any (is_longer ATOM_LIMIT) (conditions kind)
-is_past before kind limits.Factor = list_any (list_any (λ term. is_factor_past term.number term.name)) (forms kind)
-is_past before kind limits.Bound = list_any is_bound_past (checks kind)
-is_past before kind limits.Modulus = list_any is_modulus_past (checks kind)
-is_past before kind limits.Residue = list_any is_residue_past (checks kind)
-is_past before kind limits.Kept = is_kept_past kind
+-- whether a line, with so many of its kind before it, passes a limit
+abbrev pub is_past : ℕ → KindTree → Limit → Bool
+is_past count kind limits.Name = list_any (is_longer NAME_LIMIT) (declared_names kind)
+is_past count kind limits.Header = list_any (is_longer HEADER_LIMIT) (headers kind)
+is_past count kind limits.Columns = are_columns_past kind
+is_past count kind limits.Labels = are_labels_past kind
+is_past count kind limits.Measures = is_measure kind && nat_le MEASURE_LIMIT count
+is_past count kind limits.Tables = is_table kind && nat_le TABLE_LIMIT count
+is_past count kind limits.Tests = is_test kind && nat_le TEST_LIMIT count
+is_past count kind limits.Elements = are_elements_past kind
+is_past count kind limits.Cases = are_cases_past kind
+is_past count kind limits.Terms = list_any (is_longer TERM_LIMIT) (forms kind)
+is_past count kind limits.Atoms = list_any (is_longer ATOM_LIMIT) (conditions kind)
+is_past count kind limits.Factor = list_any (list_any is_factor_past) (forms kind)
+is_past count kind limits.Bound = list_any is_bound_past (checks kind)
+is_past count kind limits.Modulus = list_any is_modulus_past (checks kind)
+is_past count kind limits.Residue = list_any is_residue_past (checks kind)
+is_past count kind limits.Kept = is_kept_past kind
 
 -- the limits in their order
 abbrev pub all_limits : List Limit
@@ -221,10 +244,17 @@ all_limits =
     ∷ limits.Elements ∷ limits.Cases ∷ limits.Terms ∷ limits.Atoms ∷ limits.Factor ∷ limits.Bound ∷ limits.Modulus
     ∷ limits.Residue ∷ limits.Kept ∷ []
 
+-- the first limit that a line passes
+abbrev pub passed_limit : ℕ → KindTree → Option Limit
+passed_limit count kind = find (is_past count kind) all_limits
+
+-- the fault of a line that passes a limit
+abbrev pub limit_at : List PartTree → PartTree → Option RuleFault
+limit_at before line = option_map (faults.Limit line.line) (passed_limit (earlier before line.kind) line.kind)
+
 -- the first line that passes a limit, and the first limit that it passes
 abbrev pub limit_fault : List PartTree → Option RuleFault
-limit_fault parts =
-    first_answer (λ before line. option_map (faults.Limit line.line) (find (is_past before line.kind) all_limits)) [] parts
+limit_fault parts = first_answer limit_at [] parts
 
 -- the first rule that the specification breaks
 unfoldable pub rule_fault : SpecTree → Option RuleFault
