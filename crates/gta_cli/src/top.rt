@@ -120,18 +120,22 @@ pub fn gta_main<R: Threads + Sync, S: Source, O: Sink, E: Sink>(
         Err(Ending::Usage) => said(err, USAGE_LINE, USAGE),
         Err(Ending::Refused(refusal)) => match fault_line(alloc, &refusal) {
             Ok(line) => said(err, line.as_slice(), REFUSED),
-            Err(_) => {
-                say(err, OUT_OF_MEMORY_LINE);
-                NO_MEMORY
-            }
+            Err(_) => out_of_memory(err),
         },
         Err(Ending::ReadFault) => {
             say(err, READ_FAULT_LINE);
             READ_FAULT
         }
-        Err(Ending::Memory) => {
-            say(err, OUT_OF_MEMORY_LINE);
-            NO_MEMORY
-        }
+        Err(Ending::Memory) => out_of_memory(err),
     }
+}
+
+/// Says that memory was wanting, and gives the status of it. It takes no memory.
+pub(crate) fn out_of_memory<E: Sink>(err: &mut E) -> u8
+    ensures status { result ≡ NO_MEMORY }
+    ensures said { Says (E.gone err.old) (E.gone err.new) out_of_memory_line (Rose (E.faults err.old) (E.faults err.new)) }
+    ensures counts { E.faults err.old ≤ E.faults err.new }
+{
+    say(err, OUT_OF_MEMORY_LINE);
+    NO_MEMORY
 }
