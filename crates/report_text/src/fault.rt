@@ -50,7 +50,7 @@ pub fn fault_line(alloc: Global, refusal: &Refusal) -> Result<Vec<u8>, AllocErro
             row,
             label,
             value,
-        } => { negative_line(alloc, *test, *row, label, *value) }
+        } => negative_line(alloc, *test, *row, label, *value),
         Refusal::Heavy { row } => heavy_line(alloc, *row),
         Refusal::Keys { keys } => keys_line(alloc, *keys),
         Refusal::Size { size } => size_line(alloc, *size),

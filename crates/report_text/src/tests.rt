@@ -1,13 +1,8 @@
 //! Every refusal and every answer, with its printed bytes.
 use super::*;
 use gta_text::Name;
-use std::alloc::{AllocError, Global};
 use std::fmt::Write;
 use std::test::Fail;
-
-fn named(alloc: Global, text: &[u8]) -> Result<Name, AllocError> {
-    Name::of(alloc, text)
-}
 
 #[test]
 fn faults_of_reading(rt: HostRuntime) -> Result<(), Fail> {
@@ -54,11 +49,11 @@ fn faults_of_reading(rt: HostRuntime) -> Result<(), Fail> {
 
 #[test]
 fn faults_of_names(rt: HostRuntime) -> Result<(), Fail> {
-    let name = named(rt.alloc(), b"w")?;
-    let twice = named(rt.alloc(), b"v")?;
-    let part = named(rt.alloc(), b"aggregate")?;
-    let second = named(rt.alloc(), b"columns")?;
-    let limit = named(rt.alloc(), b"bound")?;
+    let name = Name::of(rt.alloc(), b"w")?;
+    let twice = Name::of(rt.alloc(), b"v")?;
+    let part = Name::of(rt.alloc(), b"aggregate")?;
+    let second = Name::of(rt.alloc(), b"columns")?;
+    let limit = Name::of(rt.alloc(), b"bound")?;
     let cases: [(Refusal, &[u8]); 5] = [
         (
             Refusal::Unknown { line: 4, name },
@@ -97,29 +92,29 @@ fn faults_of_names(rt: HostRuntime) -> Result<(), Fail> {
 #[test]
 fn faults_of_tables(rt: HostRuntime) -> Result<(), Fail> {
     let alloc = rt.alloc();
-    let table = named(alloc, b"t")?;
-    let element = named(alloc, b"a")?;
+    let table = Name::of(alloc, b"t")?;
+    let element = Name::of(alloc, b"a")?;
     let left = Refusal::UnitFails {
         table,
         element,
         left: true,
     };
-    let table = named(alloc, b"t")?;
-    let element = named(alloc, b"b")?;
+    let table = Name::of(alloc, b"t")?;
+    let element = Name::of(alloc, b"b")?;
     let right = Refusal::UnitFails {
         table,
         element,
         left: false,
     };
-    let table = named(alloc, b"t")?;
+    let table = Name::of(alloc, b"t")?;
     let (a, b, c) = (
-        named(alloc, b"a")?,
-        named(alloc, b"b")?,
-        named(alloc, b"c")?,
+        Name::of(alloc, b"a")?,
+        Name::of(alloc, b"b")?,
+        Name::of(alloc, b"c")?,
     );
     let triple = Refusal::NotAssociative { table, a, b, c };
-    let table = named(alloc, b"t")?;
-    let element = named(alloc, b"a")?;
+    let table = Name::of(alloc, b"t")?;
+    let element = Name::of(alloc, b"a")?;
     let square = Refusal::NotSquare { table, element };
     let cases: [(Refusal, &[u8]); 4] = [
         (left, b"refused 26: table t: unit fails at a, left\n"),
@@ -136,9 +131,9 @@ fn faults_of_tables(rt: HostRuntime) -> Result<(), Fail> {
 
 #[test]
 fn faults_of_rows(rt: HostRuntime) -> Result<(), Fail> {
-    let missing = named(rt.alloc(), b"v")?;
-    let twice = named(rt.alloc(), b"v")?;
-    let column = named(rt.alloc(), b"price")?;
+    let missing = Name::of(rt.alloc(), b"v")?;
+    let twice = Name::of(rt.alloc(), b"v")?;
+    let column = Name::of(rt.alloc(), b"price")?;
     let cases: [(Refusal, &[u8]); 6] = [
         (Refusal::NoHeader, b"refused 31: no header\n"),
         (
@@ -172,7 +167,7 @@ fn faults_of_rows(rt: HostRuntime) -> Result<(), Fail> {
 
 #[test]
 fn faults_of_numbers(rt: HostRuntime) -> Result<(), Fail> {
-    let label = Some(named(rt.alloc(), b"A")?);
+    let label = Some(Name::of(rt.alloc(), b"A")?);
     let least = -147573952589676412896;
     let cases: [(Refusal, &[u8]); 8] = [
         (
