@@ -1,17 +1,20 @@
 //! Printing measures, folds and whole lines. What is printed is in specs/Canonical.antt; each
 //! function adds what the definition of its name with `_front` says.
-ghost use Rattle.std.specs.Prelude.{◌≡◌, ℕ, Bool, [], ◌∷◌, ◌++◌, map, flat_map, IfOk, OnOk, codes, decimal, Option, if◌then◌else◌};
+ghost use Rattle.std.specs.Prelude.{◌≡◌, ℕ, Bool, [], ◌∷◌, ◌++◌, map, flat_map, IfOk, OnOk, codes};
+ghost use Rattle.std.specs.Prelude.{decimal, Option, if◌then◌else◌};
 ghost use Rattle.gta_spec.specs.Parts.{case_tree, pick_tree, test_tree, kind_tree, part_tree};
 ghost use Rattle.gta_syntax.specs.Symbols.{Word};
-ghost use Rattle.gta_syntax.specs.Canonical.{spaced, line_text, fronts, names_front, quantity_front, first_term_front};
-ghost use Rattle.gta_syntax.specs.Canonical.{next_term_front, form_front, case_front, next_case_front, cases_front};
-ghost use Rattle.gta_syntax.specs.Canonical.{pick_front, next_pick_front, picks_front, check_front, test_front};
-ghost use Rattle.gta_syntax.specs.Canonical.{shape_word, end_word, goal_front, kind_front, part_text};
+ghost use Rattle.gta_syntax.specs.Canonical.{spaced, line_text, fronts, names_front};
+ghost use Rattle.gta_syntax.specs.Canonical.{quantity_front, first_term_front, next_term_front};
+ghost use Rattle.gta_syntax.specs.Canonical.{form_front, case_front, next_case_front, cases_front};
+ghost use Rattle.gta_syntax.specs.Canonical.{pick_front, next_pick_front, picks_front};
+ghost use Rattle.gta_syntax.specs.Canonical.{check_front, test_front, goal_front, kind_front};
+ghost use Rattle.gta_syntax.specs.Canonical.{shape_word, end_word, part_text};
 
-use gta_spec::{CasePart, Check, GoalPart, Part, PartKind, PickPart, TermPart, TestPart};
 use crate::printing::{
     put_cmp, put_digits, put_if, put_items, put_name, put_names, put_num, put_number, put_spaced,
 };
+use gta_spec::{CasePart, Check, GoalPart, Part, PartKind, PickPart, TermPart, TestPart};
 use gta_text::Name;
 use shape_gen::Shape;
 use std::alloc::{AllocError, Global};
@@ -23,7 +26,8 @@ fn put_quantity(
     glued: bool,
     term: &TermPart,
 ) -> Result<(), AllocError>
-    ensures { OnOk result (out.new.items ≡ out.old.items ++ line_text (quantity_front glued term.now.number term.now.name [])) }
+    ensures { OnOk result (out.new.items ≡ out.old.items
+        ++ line_text (quantity_front glued term.now.number term.now.name [])) }
 {
     match (&term.number, &term.name) {
         (None, None) => Ok(()),
@@ -38,7 +42,8 @@ fn put_quantity(
 }
 
 fn put_behind(out: &mut Vec<u8>, glued: bool, text: &[u8]) -> Result<(), AllocError>
-    ensures { OnOk result (out.new.items ≡ out.old.items ++ ((if glued then [] else 32 ∷ []) ++ text.now)) }
+    ensures { OnOk result
+        (out.new.items ≡ out.old.items ++ ((if glued then [] else 32 ∷ []) ++ text.now)) }
 {
     if glued {
         out.extend_from_slice(text)
@@ -53,7 +58,8 @@ fn put_number_behind(
     glued: bool,
     number: u64,
 ) -> Result<(), AllocError>
-    ensures { OnOk result (out.new.items ≡ out.old.items ++ ((if glued then [] else 32 ∷ []) ++ decimal number)) }
+    ensures { OnOk result
+        (out.new.items ≡ out.old.items ++ ((if glued then [] else 32 ∷ []) ++ decimal number)) }
 {
     if glued {
         put_digits(alloc, out, number)
@@ -63,7 +69,8 @@ fn put_number_behind(
 }
 
 fn put_first_term(alloc: Global, out: &mut Vec<u8>, term: &TermPart) -> Result<(), AllocError>
-    ensures { OnOk result (out.new.items ≡ out.old.items ++ line_text (first_term_front term.now [])) }
+    ensures { OnOk result
+        (out.new.items ≡ out.old.items ++ line_text (first_term_front term.now [])) }
 {
     if term.minus {
         put_spaced(out, b"-")?;
@@ -72,7 +79,8 @@ fn put_first_term(alloc: Global, out: &mut Vec<u8>, term: &TermPart) -> Result<(
 }
 
 fn put_next_term(alloc: Global, out: &mut Vec<u8>, term: &TermPart) -> Result<(), AllocError>
-    ensures { OnOk result (out.new.items ≡ out.old.items ++ line_text (next_term_front term.now [])) }
+    ensures { OnOk result
+        (out.new.items ≡ out.old.items ++ line_text (next_term_front term.now [])) }
 {
     if !term.minus {
         put_spaced(out, b"+")?;
@@ -83,7 +91,8 @@ fn put_next_term(alloc: Global, out: &mut Vec<u8>, term: &TermPart) -> Result<()
 }
 
 fn put_more_terms(alloc: Global, out: &mut Vec<u8>, terms: &[TermPart]) -> Result<(), AllocError>
-    ensures { OnOk result (out.new.items ≡ out.old.items ++ line_text (fronts next_term_front terms.now [])) }
+    ensures { OnOk result
+        (out.new.items ≡ out.old.items ++ line_text (fronts next_term_front terms.now [])) }
 {
     for term in terms {
         put_next_term(alloc, out, term)?;
@@ -103,21 +112,24 @@ fn put_form(alloc: Global, out: &mut Vec<u8>, terms: &[TermPart]) -> Result<(), 
 }
 
 fn put_case(alloc: Global, out: &mut Vec<u8>, case: &CasePart) -> Result<(), AllocError>
-    ensures { OnOk result (out.new.items ≡ out.old.items ++ line_text (case_front (case_tree case.now) [])) }
+    ensures { OnOk result
+        (out.new.items ≡ out.old.items ++ line_text (case_front (case_tree case.now) [])) }
 {
     put_form(alloc, out, &case.form)?;
     put_if(alloc, out, &case.cond)
 }
 
 fn put_next_case(alloc: Global, out: &mut Vec<u8>, case: &CasePart) -> Result<(), AllocError>
-    ensures { OnOk result (out.new.items ≡ out.old.items ++ line_text (next_case_front (case_tree case.now) [])) }
+    ensures { OnOk result
+        (out.new.items ≡ out.old.items ++ line_text (next_case_front (case_tree case.now) [])) }
 {
     put_spaced(out, b";")?;
     put_case(alloc, out, case)
 }
 
 fn put_more_cases(alloc: Global, out: &mut Vec<u8>, cases: &[CasePart]) -> Result<(), AllocError>
-    ensures { OnOk result (out.new.items ≡ out.old.items ++ line_text (fronts next_case_front (map case_tree cases.now) [])) }
+    ensures { OnOk result (out.new.items ≡ out.old.items
+        ++ line_text (fronts next_case_front (map case_tree cases.now) [])) }
 {
     for case in cases {
         put_next_case(alloc, out, case)?;
@@ -126,7 +138,8 @@ fn put_more_cases(alloc: Global, out: &mut Vec<u8>, cases: &[CasePart]) -> Resul
 }
 
 fn put_cases(alloc: Global, out: &mut Vec<u8>, cases: &[CasePart]) -> Result<(), AllocError>
-    ensures { OnOk result (out.new.items ≡ out.old.items ++ line_text (cases_front (map case_tree cases.now) [])) }
+    ensures { OnOk result
+        (out.new.items ≡ out.old.items ++ line_text (cases_front (map case_tree cases.now) [])) }
 {
     let Some((first, others)) = cases.split_first() else {
         return Ok(());
@@ -136,21 +149,24 @@ fn put_cases(alloc: Global, out: &mut Vec<u8>, cases: &[CasePart]) -> Result<(),
 }
 
 fn put_pick(alloc: Global, out: &mut Vec<u8>, pick: &PickPart) -> Result<(), AllocError>
-    ensures { OnOk result (out.new.items ≡ out.old.items ++ line_text (pick_front (pick_tree pick.now) [])) }
+    ensures { OnOk result
+        (out.new.items ≡ out.old.items ++ line_text (pick_front (pick_tree pick.now) [])) }
 {
     put_spaced(out, pick.element.bytes())?;
     put_if(alloc, out, &pick.cond)
 }
 
 fn put_next_pick(alloc: Global, out: &mut Vec<u8>, pick: &PickPart) -> Result<(), AllocError>
-    ensures { OnOk result (out.new.items ≡ out.old.items ++ line_text (next_pick_front (pick_tree pick.now) [])) }
+    ensures { OnOk result
+        (out.new.items ≡ out.old.items ++ line_text (next_pick_front (pick_tree pick.now) [])) }
 {
     put_spaced(out, b";")?;
     put_pick(alloc, out, pick)
 }
 
 fn put_more_picks(alloc: Global, out: &mut Vec<u8>, picks: &[PickPart]) -> Result<(), AllocError>
-    ensures { OnOk result (out.new.items ≡ out.old.items ++ line_text (fronts next_pick_front (map pick_tree picks.now) [])) }
+    ensures { OnOk result (out.new.items ≡ out.old.items
+        ++ line_text (fronts next_pick_front (map pick_tree picks.now) [])) }
 {
     for pick in picks {
         put_next_pick(alloc, out, pick)?;
@@ -159,7 +175,8 @@ fn put_more_picks(alloc: Global, out: &mut Vec<u8>, picks: &[PickPart]) -> Resul
 }
 
 fn put_picks(alloc: Global, out: &mut Vec<u8>, picks: &[PickPart]) -> Result<(), AllocError>
-    ensures { OnOk result (out.new.items ≡ out.old.items ++ line_text (picks_front (map pick_tree picks.now) [])) }
+    ensures { OnOk result
+        (out.new.items ≡ out.old.items ++ line_text (picks_front (map pick_tree picks.now) [])) }
 {
     let Some((first, others)) = picks.split_first() else {
         return Ok(());
@@ -186,7 +203,8 @@ fn put_check(alloc: Global, out: &mut Vec<u8>, check: &Check) -> Result<(), Allo
 }
 
 fn put_test(alloc: Global, out: &mut Vec<u8>, test: &TestPart) -> Result<(), AllocError>
-    ensures { OnOk result (out.new.items ≡ out.old.items ++ line_text (test_front (test_tree test.now) [])) }
+    ensures { OnOk result
+        (out.new.items ≡ out.old.items ++ line_text (test_front (test_tree test.now) [])) }
 {
     match test {
         TestPart::Sum { name, check } => {
@@ -211,7 +229,8 @@ fn put_test(alloc: Global, out: &mut Vec<u8>, test: &TestPart) -> Result<(), All
 }
 
 fn put_folded(out: &mut Vec<u8>, table: &Name) -> Result<(), AllocError>
-    ensures { OnOk result (out.new.items ≡ out.old.items ++ line_text (spaced (Word (codes "fold")) ∷ spaced (Word table.now) ∷ spaced (Word (codes "by")) ∷ [])) }
+    ensures { OnOk result (out.new.items ≡ out.old.items ++ line_text (spaced (Word (codes "fold"))
+        ∷ spaced (Word table.now) ∷ spaced (Word (codes "by")) ∷ [])) }
 {
     put_spaced(out, b"fold")?;
     put_name(out, table)?;
@@ -220,7 +239,8 @@ fn put_folded(out: &mut Vec<u8>, table: &Name) -> Result<(), AllocError>
 
 /// The word, and then the names.
 fn put_listed(out: &mut Vec<u8>, word: &[u8], names: &[Name]) -> Result<(), AllocError>
-    ensures { OnOk result (out.new.items ≡ out.old.items ++ line_text (spaced (Word word.now) ∷ names_front names.now [])) }
+    ensures { OnOk result (out.new.items ≡ out.old.items
+        ++ line_text (spaced (Word word.now) ∷ names_front names.now [])) }
 {
     put_spaced(out, word)?;
     put_names(out, names)
@@ -272,7 +292,8 @@ fn put_goal(alloc: Global, out: &mut Vec<u8>, goal: &GoalPart) -> Result<(), All
 }
 
 fn put_united(out: &mut Vec<u8>, table: &Name, unit: &Name) -> Result<(), AllocError>
-    ensures { OnOk result (out.new.items ≡ out.old.items ++ line_text (spaced (Word table.now) ∷ spaced (Word (codes "unit")) ∷ spaced (Word unit.now) ∷ [])) }
+    ensures { OnOk result (out.new.items ≡ out.old.items ++ line_text
+        (spaced (Word table.now) ∷ spaced (Word (codes "unit")) ∷ spaced (Word unit.now) ∷ [])) }
 {
     put_name(out, table)?;
     put_spaced(out, b"unit")?;
@@ -280,7 +301,8 @@ fn put_united(out: &mut Vec<u8>, table: &Name, unit: &Name) -> Result<(), AllocE
 }
 
 fn put_kind(alloc: Global, out: &mut Vec<u8>, kind: &PartKind) -> Result<(), AllocError>
-    ensures { OnOk result (out.new.items ≡ out.old.items ++ line_text (kind_front (kind_tree kind.now) [])) }
+    ensures { OnOk result
+        (out.new.items ≡ out.old.items ++ line_text (kind_front (kind_tree kind.now) [])) }
 {
     match kind {
         PartKind::Columns(items) => {

@@ -2,8 +2,8 @@
 //! what the definition of its name with `_front` says.
 ghost use Rattle.std.specs.Prelude.{◌≡◌, ℕ, [], ◌∷◌, ◌++◌, map, IfOk, OnOk, decimal, string_bytes};
 ghost use Rattle.std.specs.Fmt.{signed_decimal};
-ghost use Rattle.gta_syntax.specs.Canonical.{line_text, fronts, name_front, names_front, num_front, item_front, cmp_text, atom_front};
-ghost use Rattle.gta_syntax.specs.Canonical.{and_front, if_front};
+ghost use Rattle.gta_syntax.specs.Canonical.{line_text, fronts, name_front, names_front, num_front};
+ghost use Rattle.gta_syntax.specs.Canonical.{item_front, cmp_text, atom_front, and_front, if_front};
 
 use gta_spec::{AtomPart, Cmp, ColumnItem};
 use gta_text::Name;
@@ -67,7 +67,8 @@ fn put_item(out: &mut Vec<u8>, item: &ColumnItem) -> Result<(), AllocError>
 }
 
 pub(crate) fn put_items(out: &mut Vec<u8>, items: &[ColumnItem]) -> Result<(), AllocError>
-    ensures { OnOk result (out.new.items ≡ out.old.items ++ line_text (fronts item_front items.now [])) }
+    ensures { OnOk result
+        (out.new.items ≡ out.old.items ++ line_text (fronts item_front items.now [])) }
 {
     for item in items {
         put_item(out, item)?;
@@ -109,7 +110,8 @@ fn put_and(alloc: Global, out: &mut Vec<u8>, atom: &AtomPart) -> Result<(), Allo
 }
 
 fn put_more_atoms(alloc: Global, out: &mut Vec<u8>, atoms: &[AtomPart]) -> Result<(), AllocError>
-    ensures { OnOk result (out.new.items ≡ out.old.items ++ line_text (fronts and_front atoms.now [])) }
+    ensures { OnOk result
+        (out.new.items ≡ out.old.items ++ line_text (fronts and_front atoms.now [])) }
 {
     for atom in atoms {
         put_and(alloc, out, atom)?;

@@ -16,7 +16,8 @@ pub fn show_spec(alloc: Global, spec: &Spec) -> Result<Vec<u8>, AllocError>
     requires { IsWellFormed (spec_tree spec.now) }
     ensures text { IfOk result (λ text. text.items ≡ canonical (spec_tree spec.now)) }
     // The text is the same specification, its parts on the lines from the second on.
-    ensures reads_back { IfOk result (λ text. SpecText text.items (shown_as (spec_tree spec.now)) (length text.items)) }
+    ensures reads_back { IfOk result
+        (λ text. SpecText text.items (shown_as (spec_tree spec.now)) (length text.items)) }
 {
     text_of(alloc, spec)
 }
@@ -32,7 +33,8 @@ fn text_of(alloc: Global, spec: &Spec) -> Result<Vec<u8>, AllocError>
 }
 
 fn put_parts(alloc: Global, out: &mut Vec<u8>, parts: &[Part]) -> Result<(), AllocError>
-    ensures { OnOk result (out.new.items ≡ out.old.items ++ flat_map part_text (map part_tree parts.now)) }
+    ensures { OnOk result
+        (out.new.items ≡ out.old.items ++ flat_map part_text (map part_tree parts.now)) }
 {
     for part in parts {
         put_part(alloc, out, part)?;
