@@ -5,9 +5,9 @@ use Rattle.gta_syntax.specs.declared.fault.SpecFault.{SpecFault}
 use Rattle.gta_syntax.specs.declared.fault.SpecFault.TheVariants.{Byte, Version, Grammar, Number, NoRows, Memory}
 use Rattle.gta_syntax.specs.declared.reading.Read.{Read}
 use Rattle.gta_spec.specs.Parts.{KindTree, PartTree, SpecTree, spec_tree}
-use Rattle.gta_syntax.specs.Symbols.{symbols}
+use Rattle.gta_spec.specs.Symbols.{symbols}
 use Rattle.gta_syntax.specs.Rules.{part_at}
-use Rattle.gta_syntax.specs.SpecText.{is_version, has_past}
+use Rattle.gta_spec.specs.SpecText.{is_version, has_past}
 
 -- a specification, and where the table begins
 pub record ReadTree : Type 0 where

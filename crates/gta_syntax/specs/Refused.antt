@@ -5,9 +5,9 @@ use Rattle.gta_text.specs.Text.{Numbered, BadByte, read_lines}
 use Rattle.gta_syntax.specs.declared.fault.SpecFault.{SpecFault}
 use Rattle.gta_syntax.specs.declared.fault.SpecFault.TheVariants.{Byte, Version, Grammar, Number, NoRows}
 use Rattle.gta_spec.specs.Parts.{KindTree, PartTree}
-use Rattle.gta_syntax.specs.Symbols.{symbols}
-use Rattle.gta_syntax.specs.Grammar.{IsPart}
-use Rattle.gta_syntax.specs.SpecText.{is_version, has_past, AreParts}
+use Rattle.gta_spec.specs.Symbols.{symbols}
+use Rattle.gta_spec.specs.Grammar.{IsPart}
+use Rattle.gta_spec.specs.SpecText.{is_version, has_past, AreParts}
 
 -- the first line that is not in the grammar has this number
 pub data IsFirstOutside (source : List ℕ) : List Numbered → ℕ → Type 0 where

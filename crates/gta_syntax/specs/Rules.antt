@@ -17,7 +17,7 @@ use Rattle.gta_spec.specs.declared.parts.GoalPart.TheVariants.{Count, Any, Max, 
 use Rattle.gta_syntax.specs.declared.fault.LineFault.{LineFault}
 use Rattle.gta_syntax.specs.declared.fault.LineFault.TheVariants as faults
 use Rattle.gta_spec.specs.Parts.{CaseTree, PickTree, TestTree, Sum, Length, Fold, KindTree, Columns, Labels, Measure, Table, Times, Generate, Test, Aggregate}
-use Rattle.gta_syntax.specs.Symbols.{Symbol, Word, Digits, Text, Sign, Stray}
+use Rattle.gta_spec.specs.Symbols.{Symbol, Word, Digits, Text, Sign, Stray}
 
 infixl 10 ◌>>=◌
 abbrev pub ◌>>=◌ : {A B : Type 0} → Option A → (A → Option B) → Option B

@@ -2,7 +2,7 @@
 //! gives.
 ghost use Rattle.std.specs.Prelude.{◌≡◌, codes, map};
 ghost use Rattle.gta_spec.specs.Parts.{test_tree, kind_tree};
-ghost use Rattle.gta_syntax.specs.Symbols.{symbols};
+ghost use Rattle.gta_spec.specs.Symbols.{symbols};
 ghost use Rattle.gta_syntax.specs.Rules.{Gives, check_at, fold_at, test_at, shape_at, end_at};
 ghost use Rattle.gta_syntax.specs.Rules.{best_at, goal_at, measure_at, table_at, times_at, line_at};
 ghost use Rattle.gta_syntax.specs.Rules.{part_at};

@@ -2,7 +2,7 @@
 //! of its name in specs/Rules.antt gives.
 ghost use Rattle.std.specs.Prelude.{◌≡◌, ℕ, length, map, codes};
 ghost use Rattle.gta_spec.specs.Parts.{case_tree, pick_tree};
-ghost use Rattle.gta_syntax.specs.Symbols.{symbols};
+ghost use Rattle.gta_spec.specs.Symbols.{symbols};
 ghost use Rattle.gta_syntax.specs.Rules.{Gives, many, list_at, begins_sign, begins_next_term};
 ghost use Rattle.gta_syntax.specs.Rules.{term_at, first_term_at, next_term_at, form_at, case_at};
 ghost use Rattle.gta_syntax.specs.Rules.{next_case_at, cases_at, pick_at, next_pick_at, picks_at};

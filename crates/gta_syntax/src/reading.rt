@@ -1,12 +1,12 @@
-//! Reading a specification. Which specification a text is, is in specs/SpecText.antt, and the
-//! refusals in their order are in specs/Refusals.antt.
+//! Reading a specification. The refusals in their order are in specs/Refused.antt, and as a
+//! function in specs/Refusals.antt; which specification a text is, is in gta_spec.
 ghost use Rattle.std.specs.Prelude.{◌≡◌, ◌≢◌, ℕ, ◌≤◌, length, map, Ok, Err, IfOk, IsErrOf};
 ghost use Rattle.gta_text.specs.Text.{line_view};
 ghost use Rattle.gta_text.specs.declared.lines.TheConstants.{INPUT_BOUND};
 ghost use Rattle.gta_spec.specs.Parts.{part_tree, SpecTree, spec_tree};
-ghost use Rattle.gta_syntax.specs.Symbols.{symbol_of, symbols};
+ghost use Rattle.gta_spec.specs.Symbols.{symbol_of, symbols};
 ghost use Rattle.gta_syntax.specs.Rules.{part_at};
-ghost use Rattle.gta_syntax.specs.SpecText.{SpecText, is_version, is_past, has_past};
+ghost use Rattle.gta_spec.specs.SpecText.{SpecText, is_version, is_past, has_past};
 ghost use Rattle.gta_spec.specs.WellFormed.{IsWellFormed};
 ghost use Rattle.gta_syntax.specs.Refused.{IsRefused};
 ghost use Rattle.gta_syntax.specs.declared.fault.SpecFault.{SpecFault};

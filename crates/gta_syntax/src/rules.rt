@@ -1,7 +1,7 @@
 //! Reading names, numbers, columns and conditions: each function gives what the definition of its
 //! name in specs/Rules.antt gives.
 ghost use Rattle.std.specs.Prelude.{◌≡◌, ℕ, length, codes};
-ghost use Rattle.gta_syntax.specs.Symbols.{symbols};
+ghost use Rattle.gta_spec.specs.Symbols.{symbols};
 ghost use Rattle.gta_syntax.specs.Rules.{Gives, many, list_at, begins_name, begins_word, name_at};
 ghost use Rattle.gta_syntax.specs.Rules.{names_at, num_at, item_at, cmp_at, atom_at, and_at};
 ghost use Rattle.gta_syntax.specs.Rules.{cond_at, if_at};

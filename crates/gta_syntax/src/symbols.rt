@@ -2,7 +2,7 @@
 //! gives.
 ghost use Rattle.std.specs.Prelude.{◌≡◌, ◌+◌, ◌≤◌, option_map, is_some, unwrap_or, IfSome, IfOk};
 ghost use Rattle.gta_text.specs.Numbers.{digits_number};
-ghost use Rattle.gta_syntax.specs.Symbols.{unquoted, symbols};
+ghost use Rattle.gta_spec.specs.Symbols.{unquoted, symbols};
 ghost use Rattle.gta_syntax.specs.Rules.{Gives, word_at, sign_at, digits_at, text_at, name_at};
 ghost use Rattle.gta_syntax.specs.Rules.{begins_name, begins_word, begins_sign};
 
