@@ -1,4 +1,5 @@
--- The canonical text of a specification: its symbols with one space between them, but none where one is glued to the one before.
+-- The canonical text of a specification: its symbols with one space between them,
+-- but none where one is glued to the one before.
 use Rattle.std.specs.Prelude.{ℕ, suc, ◌+◌, Bool, true, false, List, [], ◌∷◌, ◌++◌, flat_map, ℤ, pos, negsuc, Option, Some, None, codes, if◌then◌else◌, decimal}
 use Rattle.shape_gen.specs.declared.shape.Shape.{Shape}
 use Rattle.shape_gen.specs.declared.shape.Shape.TheVariants as shapes
@@ -83,7 +84,8 @@ quantity_front is_glued None None rest = rest
 quantity_front is_glued None (Some x) rest = record { symbol = Word x; glued = is_glued } ∷ rest
 quantity_front is_glued (Some n) None rest = record { symbol = Digits n; glued = is_glued } ∷ rest
 quantity_front is_glued (Some n) (Some x) rest =
-    record { symbol = Digits n; glued = is_glued } ∷ glued (Sign (codes "*")) ∷ glued (Word x) ∷ rest
+    record { symbol = Digits n; glued = is_glued } ∷ glued (Sign (codes "*")) ∷ glued (Word x)
+    ∷ rest
 
 -- a leading minus stands right before its term
 abbrev pub first_sign_front : Bool → List Piece → List Piece
@@ -91,14 +93,16 @@ first_sign_front false rest = rest
 first_sign_front true rest = spaced (Sign (codes "-")) ∷ rest
 
 abbrev pub first_term_front : TermPart → List Piece → List Piece
-first_term_front term rest = first_sign_front term.minus (quantity_front term.minus term.number term.name rest)
+first_term_front term rest =
+    first_sign_front term.minus (quantity_front term.minus term.number term.name rest)
 
 abbrev pub sign_between : Bool → List ℕ
 sign_between false = codes "+"
 sign_between true = codes "-"
 
 abbrev pub next_term_front : TermPart → List Piece → List Piece
-next_term_front term rest = spaced (Sign (sign_between term.minus)) ∷ quantity_front false term.number term.name rest
+next_term_front term rest =
+    spaced (Sign (sign_between term.minus)) ∷ quantity_front false term.number term.name rest
 
 abbrev pub form_front : List TermPart → List Piece → List Piece
 form_front [] rest = rest
@@ -126,13 +130,17 @@ picks_front (x ∷ xs) rest = pick_front x (fronts next_pick_front xs rest)
 
 abbrev pub check_front : Check → List Piece → List Piece
 check_front (Compare c z) rest = spaced (Sign (cmp_text c)) ∷ num_front z rest
-check_front (Mod m r) rest = spaced (Word (codes "mod")) ∷ spaced (Digits m) ∷ spaced (Sign (codes "=")) ∷ spaced (Digits r) ∷ rest
+check_front (Mod m r) rest =
+    spaced (Word (codes "mod")) ∷ spaced (Digits m) ∷ spaced (Sign (codes "=")) ∷ spaced (Digits r)
+    ∷ rest
 
 abbrev pub test_front : TestTree → List Piece → List Piece
-test_front (Sum x check) rest = spaced (Word (codes "sum")) ∷ spaced (Word x) ∷ check_front check rest
+test_front (Sum x check) rest =
+    spaced (Word (codes "sum")) ∷ spaced (Word x) ∷ check_front check rest
 test_front (Length check) rest = spaced (Word (codes "length")) ∷ check_front check rest
 test_front (Fold table picks accept) rest =
-    spaced (Word (codes "fold")) ∷ spaced (Word table) ∷ spaced (Word (codes "by")) ∷ picks_front picks (spaced (Word (codes "accept")) ∷ names_front accept rest)
+    spaced (Word (codes "fold")) ∷ spaced (Word table) ∷ spaced (Word (codes "by"))
+    ∷ picks_front picks (spaced (Word (codes "accept")) ∷ names_front accept rest)
 
 abbrev pub shape_word : Shape → List ℕ
 shape_word shapes.Sublists = codes "sublists"
@@ -150,19 +158,26 @@ goal_front Count rest = spaced (Word (codes "count")) ∷ rest
 goal_front Any rest = spaced (Word (codes "any")) ∷ rest
 goal_front (Max x) rest = spaced (Word (codes "max")) ∷ spaced (Word x) ∷ rest
 goal_front (Min x) rest = spaced (Word (codes "min")) ∷ spaced (Word x) ∷ rest
-goal_front (Best k greatest x) rest = spaced (Word (codes "best")) ∷ spaced (Digits k) ∷ spaced (Word (end_word greatest)) ∷ spaced (Word x) ∷ rest
+goal_front (Best k greatest x) rest =
+    spaced (Word (codes "best")) ∷ spaced (Digits k) ∷ spaced (Word (end_word greatest))
+    ∷ spaced (Word x) ∷ rest
 
 -- the pieces of a line, the first of which stands at its beginning
 abbrev pub kind_front : KindTree → List Piece → List Piece
 kind_front (Columns items) rest = glued (Word (codes "columns")) ∷ fronts item_front items rest
 kind_front (Labels names) rest = glued (Word (codes "labels")) ∷ names_front names rest
-kind_front (Measure part) rest = glued (Word (codes "measure")) ∷ spaced (Word part.name) ∷ spaced (Sign (codes "=")) ∷ cases_front part.cases rest
+kind_front (Measure part) rest =
+    glued (Word (codes "measure")) ∷ spaced (Word part.name) ∷ spaced (Sign (codes "="))
+    ∷ cases_front part.cases rest
 kind_front (Table part) rest =
-    glued (Word (codes "table")) ∷ spaced (Word part.name) ∷ spaced (Word (codes "unit")) ∷ spaced (Word part.unit)
+    glued (Word (codes "table")) ∷ spaced (Word part.name) ∷ spaced (Word (codes "unit"))
+    ∷ spaced (Word part.unit)
     ∷ spaced (Word (codes "elements")) ∷ names_front part.elements rest
 kind_front (Times part) rest =
-    glued (Word (codes "times")) ∷ spaced (Word part.table) ∷ spaced (Word part.element) ∷ spaced (Sign (codes "=")) ∷ names_front part.products rest
-kind_front (Generate shape) rest = glued (Word (codes "generate")) ∷ spaced (Word (shape_word shape)) ∷ rest
+    glued (Word (codes "times")) ∷ spaced (Word part.table) ∷ spaced (Word part.element)
+    ∷ spaced (Sign (codes "=")) ∷ names_front part.products rest
+kind_front (Generate shape) rest =
+    glued (Word (codes "generate")) ∷ spaced (Word (shape_word shape)) ∷ rest
 kind_front (Test test) rest = glued (Word (codes "test")) ∷ test_front test rest
 kind_front (Aggregate goal) rest = glued (Word (codes "aggregate")) ∷ goal_front goal rest
 
@@ -176,7 +191,8 @@ canonical spec = codes "gta 1" ++ 10 ∷ (flat_map part_text spec.parts ++ (code
 -- the same parts, on the lines from this number on
 abbrev pub renumbered : ℕ → List PartTree → List PartTree
 renumbered line [] = []
-renumbered line (part ∷ parts) = record { line = line; kind = part.kind } ∷ renumbered (line + 1) parts
+renumbered line (part ∷ parts) =
+    record { line = line; kind = part.kind } ∷ renumbered (line + 1) parts
 
 -- the specification as its canonical text says it: the first part on line 2
 abbrev pub shown_as : SpecTree → SpecTree

@@ -23,7 +23,8 @@ abbrev pub is_version : List ℕ → List Token → Bool
 is_version source [] = false
 is_version source (word ∷ []) = false
 is_version source (word ∷ digits ∷ []) =
-    is_the_word (codes "gta") source word && is_digits_kind digits.kind && bytes_eq (token_text source digits) (codes "1")
+    is_the_word (codes "gta") source word && is_digits_kind digits.kind
+    && bytes_eq (token_text source digits) (codes "1")
 is_version source (word ∷ digits ∷ third ∷ others) = false
 
 -- a number past the bound
