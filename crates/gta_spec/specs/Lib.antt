@@ -1,2 +1,5 @@
 pub mod Parts
 pub mod WellFormed
+pub mod Symbols
+pub mod Grammar
+pub mod SpecText

@@ -70,7 +70,8 @@ FitsCheck (Mod m r) = FitsDigits m × FitsDigits r
 abbrev pub FitsTest : TestTree → Type 0
 FitsTest (Sum x check) = FitsName x × FitsCheck check
 FitsTest (Length check) = FitsCheck check
-FitsTest (Fold table picks accept) = FitsName table × SomeFit FitsPick picks × SomeFit FitsName accept
+FitsTest (Fold table picks accept) =
+    FitsName table × SomeFit FitsPick picks × SomeFit FitsName accept
 
 abbrev pub FitsGoal : GoalPart → Type 0
 FitsGoal Count = Unit {0}
@@ -92,7 +93,8 @@ FitsKind (Aggregate goal) = FitsGoal goal
 -- parts on ascending lines, the first not before line `low`
 abbrev pub FitParts : ℕ → List PartTree → Type 0
 FitParts low [] = Unit {0}
-FitParts low (part ∷ parts) = (low ≤ part.line) × FitsKind part.kind × FitParts (part.line + 1) parts
+FitParts low (part ∷ parts) =
+    (low ≤ part.line) × FitsKind part.kind × FitParts (part.line + 1) parts
 
 pub record IsWellFormed (spec : SpecTree) : Type 0 where
   pub version : spec.version ≡ 1

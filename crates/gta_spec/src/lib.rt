@@ -1,5 +1,7 @@
-//! The parts of a specification as types. specs/Parts.antt has them with lists in place of vectors, and
-//! specs/WellFormed.antt says which specifications the grammar can give.
+//! The parts of a specification as types, and the grammar of its text. specs/Parts.antt has the parts
+//! with lists in place of vectors. The grammar of a line is in specs/Grammar.antt, over the symbols
+//! of specs/Symbols.antt; specs/SpecText.antt says which specification a text is, and
+//! specs/WellFormed.antt which specifications there are.
 #![tactic(auto)]
 
 mod limits;

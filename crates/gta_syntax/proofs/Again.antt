@@ -1,8 +1,8 @@
 -- Lists of items: what is derived is read, where what follows an item does not belong to it.
 use Rattle.std.proofs.Common.{◌≡◌, ℕ, zero, suc, ◌≤◌, ◌<◌, Bool, true, false, List, length, refl, arith}
 use Rattle.std.specs.Prelude.{Option, Some}
-use Rattle.gta_syntax.specs.Symbols.{Symbol}
-use Rattle.gta_syntax.specs.Grammar.{Many, none, some, Listed, listed}
+use Rattle.gta_spec.specs.Symbols.{Symbol}
+use Rattle.gta_spec.specs.Grammar.{Many, none, some, Listed, listed}
 use Rattle.gta_syntax.specs.Rules.{many, list_at}
 
 -- items that are read one after the other: `Ends` says what may follow one

@@ -11,9 +11,9 @@ use Rattle.gta_spec.specs.declared.parts.AtomPart.{AtomPart}
 use Rattle.gta_spec.specs.declared.parts.Cmp.{Cmp}
 use Rattle.gta_spec.specs.declared.parts.Check.{Check}
 use Rattle.gta_spec.specs.declared.parts.GoalPart.{GoalPart}
-use Rattle.gta_syntax.specs.Symbols.{Symbol}
+use Rattle.gta_spec.specs.Symbols.{Symbol}
 use Rattle.gta_spec.specs.Parts.{CaseTree, PickTree, TestTree, KindTree}
-use Rattle.gta_syntax.specs.Grammar.{IsWord, IsSign, IsDigits, IsText, IsName, IsNames, IsNum, IsItem, IsCmp, IsAtom, IsAnd, IsCond, IsIf, IsTerm, IsFirstTerm, IsNextTerm, IsForm, IsCase, IsNextCase, IsCases, IsPick, IsNextPick, IsPicks, IsCheck, IsTest, IsShape, IsEnd, IsGoal, IsLine, IsPart, Listed, behind}
+use Rattle.gta_spec.specs.Grammar.{IsWord, IsSign, IsDigits, IsText, IsName, IsNames, IsNum, IsItem, IsCmp, IsAtom, IsAnd, IsCond, IsIf, IsTerm, IsFirstTerm, IsNextTerm, IsForm, IsCase, IsNextCase, IsCases, IsPick, IsNextPick, IsPicks, IsCheck, IsTest, IsShape, IsEnd, IsGoal, IsLine, IsPart, Listed, behind}
 use Rattle.gta_syntax.specs.Rules.{word_at, sign_at, digits_at, text_at, name_at, names_at, num_at, item_at, cmp_at, atom_at, and_at, cond_at, if_at, term_at, first_term_at, next_term_at, form_at, case_at, next_case_at, cases_at, pick_at, next_pick_at, picks_at, check_at, fold_at, test_at, shape_at, end_at, best_at, goal_at, measure_at, table_at, times_at, line_at, part_at, begins_name, begins_word, begins_sign, begins_next_term, list_at}
 use Rattle.gta_syntax.proofs.Again.{IsReadable, list_again, list_within}
 

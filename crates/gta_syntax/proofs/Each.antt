@@ -2,8 +2,8 @@
 use Rattle.std.proofs.Common.{◌≡◌, ℕ, zero, suc, Bool, true, false, cond, List, [], ◌∷◌, length, refl, subst, arith}
 use Rattle.std.specs.Prelude.{Option, Some, None}
 use Rattle.std.proofs.lemmas.Option.{same_Some}
-use Rattle.gta_syntax.specs.Symbols.{Symbol}
-use Rattle.gta_syntax.specs.Grammar.{Many, none, some, Listed, listed}
+use Rattle.gta_spec.specs.Symbols.{Symbol}
+use Rattle.gta_spec.specs.Grammar.{Many, none, some, Listed, listed}
 use Rattle.gta_syntax.specs.Rules.{◌>>=◌, choose, many, list_at}
 
 -- P holds of the value, if there is one

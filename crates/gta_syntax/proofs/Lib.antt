@@ -5,9 +5,3 @@ pub mod Again
 pub mod Complete
 pub mod PartLoops
 pub mod Readings
-pub mod Fronts
-pub mod Fits
-pub mod WellRead
-pub mod Lexed
-pub mod Spelled
-pub mod ReadBack

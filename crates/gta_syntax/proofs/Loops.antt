@@ -4,7 +4,7 @@ use Rattle.std.proofs.lemmas.List.{append-nil}
 use Rattle.std.specs.Prelude.{Option, Some, None}
 use Rattle.gta_syntax.specs.declared.fault.LineFault.{LineFault}
 use Rattle.gta_syntax.specs.declared.fault.LineFault.TheVariants as faults
-use Rattle.gta_syntax.specs.Symbols.{Symbol}
+use Rattle.gta_spec.specs.Symbols.{Symbol}
 use Rattle.gta_syntax.specs.Rules.{◌>>=◌, Fails, many}
 
 -- what was read before, and what is still read

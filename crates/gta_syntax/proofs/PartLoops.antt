@@ -1,18 +1,15 @@
 -- Reading the parts of lines one after the other, as a loop does.
-use Rattle.std.proofs.Common.{◌≡◌, ℕ, suc, ◌+◌, ◌<◌, true, false, length, drop, get_or, drop-cons, add-one, List, [], ◌∷◌, ◌++◌, refl, sym, ap, ◌∙◌, append_assoc}
+use Rattle.std.proofs.Common.{◌≡◌, ℕ, true, false, List, [], ◌∷◌, ◌++◌, refl, sym, ◌∙◌, append_assoc}
 use Rattle.std.proofs.lemmas.List.{append-nil}
 use Rattle.std.specs.Prelude.{Some, None, Result, Ok, Err}
 use Rattle.gta_text.specs.Text.{Numbered}
 use Rattle.gta_syntax.specs.declared.fault.SpecFault.{SpecFault}
 use Rattle.gta_syntax.specs.declared.fault.SpecFault.TheVariants.{Byte, Version, Grammar, Number, NoRows, Memory}
 use Rattle.gta_spec.specs.Parts.{PartTree}
-use Rattle.gta_syntax.specs.Symbols.{symbols}
+use Rattle.gta_spec.specs.Symbols.{symbols}
 use Rattle.gta_syntax.specs.Rules.{part_at}
-use Rattle.gta_syntax.specs.SpecText.{has_past}
+use Rattle.gta_spec.specs.SpecText.{has_past}
 use Rattle.gta_syntax.specs.Refusals.{first_past, the_part, with_part, parts_from, Refuses}
-
-pub drop_at : {A : Type 0} (xs : List A) (i : ℕ) (x : A) → i < length xs → x ≡ get_or xs i x → drop i xs ≡ x ∷ drop (i + 1) xs
-drop_at xs i x lt is = rw (add-one, drop-cons xs i x) (ap (λ y. y ∷ drop (suc i) xs) (sym is))
 
 pub past_here : (source : List ℕ) (line : Numbered) (lines : List Numbered) → has_past source line.tokens ≡ true
     → first_past source (line ∷ lines) ≡ Some line.number

@@ -7,14 +7,14 @@ use Rattle.gta_syntax.specs.declared.fault.SpecFault.{SpecFault}
 use Rattle.gta_syntax.specs.declared.fault.SpecFault.TheVariants.{Byte, Version, Grammar, Number, NoRows, Memory}
 use Rattle.gta_spec.specs.Parts.{KindTree, PartTree, SpecTree, spec_tree}
 use Rattle.gta_syntax.specs.declared.reading.Read.{Read}
-use Rattle.gta_syntax.specs.Symbols.{symbols}
-use Rattle.gta_syntax.specs.Grammar.{IsPart}
+use Rattle.gta_spec.specs.Symbols.{symbols}
+use Rattle.gta_spec.specs.Grammar.{IsPart}
 use Rattle.gta_syntax.specs.Rules.{part_at}
-use Rattle.gta_syntax.specs.SpecText.{is_version, has_past, AreParts, none, some, SpecText}
+use Rattle.gta_spec.specs.SpecText.{is_version, has_past, AreParts, none, some, SpecText}
 use Rattle.gta_syntax.specs.Refusals.{ReadTree, first_past, the_part, with_part, parts_from, with_numbers, with_parts, with_lines, with_text, spec_of, read_tree, Refuses, Answers}
 use Rattle.gta_syntax.specs.Refused.{IsFirstOutside, IsFirstPast, IsRefused}
 use Rattle.gta_spec.specs.WellFormed.{IsWellFormed}
-use Rattle.gta_syntax.proofs.WellRead.{is_well_formed}
+use Rattle.gta_spec.proofs.WellRead.{is_well_formed}
 use Rattle.gta_syntax.proofs.Sound.{part_takes}
 use Rattle.gta_syntax.proofs.Complete.{part_again}
 use Rattle.gta_syntax.proofs.PartLoops.{past_here, past_later}

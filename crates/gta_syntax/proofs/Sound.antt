@@ -4,9 +4,9 @@ use Rattle.std.specs.Prelude.{Some, None, codes, cond}
 use Rattle.std.specs.Str.{bytes_eq}
 use Rattle.std.proofs.lemmas.Slice.Eq.{bytes_eq-Decides}
 use Rattle.gta_text.specs.Names.{is_name_text}
-use Rattle.gta_syntax.specs.Symbols.{Symbol, Word, Digits, Text, Sign, Stray}
+use Rattle.gta_spec.specs.Symbols.{Symbol, Word, Digits, Text, Sign, Stray}
 use Rattle.gta_spec.specs.Parts.{KindTree}
-use Rattle.gta_syntax.specs.Grammar.{IsWord, IsSign, IsDigits, IsText, IsName, IsNames, IsNum, IsItem, IsCmp, IsAtom, IsAnd, IsCond, IsIf, IsTerm, IsFirstTerm, IsNextTerm, IsForm, IsCase, IsNextCase, IsCases, IsPick, IsNextPick, IsPicks, IsCheck, IsTest, IsShape, IsEnd, IsGoal, IsLine, IsPart, behind}
+use Rattle.gta_spec.specs.Grammar.{IsWord, IsSign, IsDigits, IsText, IsName, IsNames, IsNum, IsItem, IsCmp, IsAtom, IsAnd, IsCond, IsIf, IsTerm, IsFirstTerm, IsNextTerm, IsForm, IsCase, IsNextCase, IsCases, IsPick, IsNextPick, IsPicks, IsCheck, IsTest, IsShape, IsEnd, IsGoal, IsLine, IsPart, behind}
 use Rattle.gta_syntax.specs.Rules.{word_at, sign_at, digits_at, text_at, name_at, names_at, num_at, item_at, cmp_at, atom_at, and_at, cond_at, if_at, term_at, first_term_at, next_term_at, form_at, case_at, next_case_at, cases_at, pick_at, next_pick_at, picks_at, check_at, fold_at, test_at, shape_at, end_at, best_at, goal_at, measure_at, table_at, times_at, line_at, part_at, ended_by}
 use Rattle.gta_syntax.proofs.Each.{Each, done, nothing, and_then, either, then_is, list_takes}
 

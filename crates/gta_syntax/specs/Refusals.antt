@@ -5,9 +5,9 @@ use Rattle.gta_syntax.specs.declared.fault.SpecFault.{SpecFault}
 use Rattle.gta_syntax.specs.declared.fault.SpecFault.TheVariants.{Byte, Version, Grammar, Number, NoRows, Memory}
 use Rattle.gta_syntax.specs.declared.reading.Read.{Read}
 use Rattle.gta_spec.specs.Parts.{KindTree, PartTree, SpecTree, spec_tree}
-use Rattle.gta_syntax.specs.Symbols.{symbols}
+use Rattle.gta_spec.specs.Symbols.{symbols}
 use Rattle.gta_syntax.specs.Rules.{part_at}
-use Rattle.gta_syntax.specs.SpecText.{is_version, has_past}
+use Rattle.gta_spec.specs.SpecText.{is_version, has_past}
 
 -- a specification, and where the table begins
 pub record ReadTree : Type 0 where
@@ -20,14 +20,16 @@ read_tree read = record { spec = spec_tree read.spec; rows_at = read.rows_at }
 -- the number of the first line with a number past the bound
 unfoldable pub first_past : List ℕ → List Numbered → Option ℕ
 first_past source [] = None
-first_past source (line ∷ lines) = if has_past source line.tokens then Some line.number else first_past source lines
+first_past source (line ∷ lines) =
+    if has_past source line.tokens then Some line.number else first_past source lines
 
 -- the part of the line with this number
 abbrev pub the_part : ℕ → Option KindTree → Result PartTree SpecFault
 the_part number None = Err (Grammar number)
 the_part number (Some kind) = Ok (record { line = number; kind = kind })
 
-abbrev pub with_part : Result PartTree SpecFault → Result (List PartTree) SpecFault → Result (List PartTree) SpecFault
+abbrev pub with_part : Result PartTree SpecFault → Result (List PartTree) SpecFault
+    → Result (List PartTree) SpecFault
 with_part (Err fault) others = Err fault
 with_part (Ok part) (Ok parts) = Ok (part ∷ parts)
 with_part (Ok part) (Err fault) = Err fault
@@ -35,17 +37,20 @@ with_part (Ok part) (Err fault) = Err fault
 -- the parts of the lines, or the first line that is not in the grammar
 unfoldable pub parts_from : List ℕ → List Numbered → Result (List PartTree) SpecFault
 parts_from source [] = Ok []
-parts_from source (line ∷ lines) = with_part (the_part line.number (part_at (symbols source line.tokens))) (parts_from source lines)
+parts_from source (line ∷ lines) =
+    with_part (the_part line.number (part_at (symbols source line.tokens))) (parts_from source lines)
 
 abbrev pub with_rows : List PartTree → Option ℕ → Result ReadTree SpecFault
 with_rows parts None = Err NoRows
-with_rows parts (Some place) = Ok (record { spec = record { version = 1; parts = parts }; rows_at = place })
+with_rows parts (Some place) =
+    Ok (record { spec = record { version = 1; parts = parts }; rows_at = place })
 
 abbrev pub with_numbers : Option ℕ → List PartTree → Option ℕ → Result ReadTree SpecFault
 with_numbers (Some number) parts rows_at = Err (Number number)
 with_numbers None parts rows_at = with_rows parts rows_at
 
-abbrev pub with_parts : List ℕ → List Numbered → Option ℕ → Result (List PartTree) SpecFault → Result ReadTree SpecFault
+abbrev pub with_parts : List ℕ → List Numbered → Option ℕ → Result (List PartTree) SpecFault
+    → Result ReadTree SpecFault
 with_parts source lines rows_at (Err fault) = Err fault
 with_parts source lines rows_at (Ok parts) = with_numbers (first_past source lines) parts rows_at
 

@@ -17,7 +17,7 @@ use Rattle.gta_spec.specs.declared.parts.GoalPart.TheVariants.{Count, Any, Max, 
 use Rattle.gta_syntax.specs.declared.fault.LineFault.{LineFault}
 use Rattle.gta_syntax.specs.declared.fault.LineFault.TheVariants as faults
 use Rattle.gta_spec.specs.Parts.{CaseTree, PickTree, TestTree, Sum, Length, Fold, KindTree, Columns, Labels, Measure, Table, Times, Generate, Test, Aggregate}
-use Rattle.gta_syntax.specs.Symbols.{Symbol, Word, Digits, Text, Sign, Stray}
+use Rattle.gta_spec.specs.Symbols.{Symbol, Word, Digits, Text, Sign, Stray}
 
 infixl 10 ◌>>=◌
 abbrev pub ◌>>=◌ : {A B : Type 0} → Option A → (A → Option B) → Option B
@@ -79,7 +79,8 @@ name_at (Sign x ∷ rest) = None
 name_at (Stray ∷ rest) = None
 
 -- items as long as one begins, at most this many
-unfoldable pub many : {A : Type 0} → (List Symbol → Bool) → (List Symbol → Option (A × List Symbol)) → ℕ → List Symbol → Option (List A × List Symbol)
+unfoldable pub many : {A : Type 0} → (List Symbol → Bool) → (List Symbol → Option (A × List Symbol))
+    → ℕ → List Symbol → Option (List A × List Symbol)
 many begins read zero ts = Some ([], ts)
 many begins read (suc n) ts =
     if begins ts then (do
@@ -89,7 +90,9 @@ many begins read (suc n) ts =
     else Some ([], ts)
 
 -- a first item, and then items as long as one begins
-unfoldable pub list_at : {A : Type 0} → (List Symbol → Option (A × List Symbol)) → (List Symbol → Bool) → (List Symbol → Option (A × List Symbol)) → List Symbol → Option (List A × List Symbol)
+unfoldable pub list_at : {A : Type 0} → (List Symbol → Option (A × List Symbol))
+    → (List Symbol → Bool) → (List Symbol → Option (A × List Symbol)) → List Symbol
+    → Option (List A × List Symbol)
 list_at first begins next ts = do
   x ← first ts
   xs ← many begins next (length x.1) x.1
@@ -304,13 +307,15 @@ times_at ts = do
   ps ← names_at a
   Some (Times (record { table = x.0; element = y.0; products = ps.0 }), ps.1)
 
-abbrev pub kind_as : {A : Type 0} → (A → KindTree) → Option (A × List Symbol) → Option (KindTree × List Symbol)
+abbrev pub kind_as : {A : Type 0} → (A → KindTree) → Option (A × List Symbol)
+    → Option (KindTree × List Symbol)
 kind_as make read = do
   x ← read
   Some (make x.0, x.1)
 
 unfoldable pub line_at : List Symbol → Option (KindTree × List Symbol)
-line_at ts = choose (word_at (codes "columns") ts) (λ a. kind_as Columns (list_at item_at begins_name item_at a))
+line_at ts =
+    choose (word_at (codes "columns") ts) (λ a. kind_as Columns (list_at item_at begins_name item_at a))
     (choose (word_at (codes "labels") ts) (λ a. kind_as Labels (names_at a))
     (choose (word_at (codes "measure") ts) (λ a. measure_at a)
     (choose (word_at (codes "table") ts) (λ a. table_at a)

@@ -1,19 +1,17 @@
-//! The text of a specification: reading it, and printing it. Its parts are types of gta_spec.
+//! Reading the text of a specification. Its parts are types of gta_spec, which has the grammar too.
+//! How a line is read from left to right is in specs/Rules.antt, and the refusals in their order are
+//! in specs/Refused.antt.
 #![tactic(auto)]
 
 mod fault;
 mod line_rules;
 mod measures;
-mod part_printing;
-mod printing;
 mod reading;
 mod rules;
-mod showing;
 mod symbols;
 
 pub use fault::SpecFault;
 pub use reading::{Read, read_spec};
-pub use showing::show_spec;
 
 #[cfg(test)]
 mod tests;

@@ -2,22 +2,24 @@
 //! gives.
 ghost use Rattle.std.specs.Prelude.{◌≡◌, codes, map};
 ghost use Rattle.gta_spec.specs.Parts.{test_tree, kind_tree};
-ghost use Rattle.gta_syntax.specs.Symbols.{symbols};
-ghost use Rattle.gta_syntax.specs.Rules.{Gives, check_at, fold_at, test_at, shape_at, end_at, best_at, goal_at};
-ghost use Rattle.gta_syntax.specs.Rules.{measure_at, table_at, times_at, line_at, part_at};
+ghost use Rattle.gta_spec.specs.Symbols.{symbols};
+ghost use Rattle.gta_syntax.specs.Rules.{Gives, check_at, fold_at, test_at, shape_at, end_at};
+ghost use Rattle.gta_syntax.specs.Rules.{best_at, goal_at, measure_at, table_at, times_at, line_at};
+ghost use Rattle.gta_syntax.specs.Rules.{part_at};
 
 use crate::fault::LineFault;
 use crate::measures::{cases_at, picks_at};
-use gta_spec::{Check, GoalPart, MeasurePart, PartKind, TablePart, TestPart, TimesPart};
 use crate::rules::{cmp_at, items_at, names_at, num_at};
 use crate::symbols::{digits_at, name_at, sign_at, word, word_at};
+use gta_spec::{Check, GoalPart, MeasurePart, PartKind, TablePart, TestPart, TimesPart};
 use gta_text::Token;
 use shape_gen::Shape;
 use std::alloc::Global;
 
 #[tactic(auto, unfolding(crate::specs::Rules::check_at))]
 fn check_at<'t>(source: &[u8], tokens: &'t [Token]) -> Result<(Check, &'t [Token]), LineFault>
-    ensures { Gives (λ x. (x.0, symbols source.now x.1.now)) result (check_at (symbols source.now tokens.now)) }
+    ensures { Gives (λ x. (x.0, symbols source.now x.1.now)) result
+        (check_at (symbols source.now tokens.now)) }
 {
     if let Some(rest) = word(source, b"mod", tokens) {
         let (modulus, rest) = digits_at(source, rest)?;
@@ -36,7 +38,8 @@ fn fold_at<'t>(
     source: &[u8],
     tokens: &'t [Token],
 ) -> Result<(TestPart, &'t [Token]), LineFault>
-    ensures { Gives (λ x. (test_tree x.0, symbols source.now x.1.now)) result (fold_at (symbols source.now tokens.now)) }
+    ensures { Gives (λ x. (test_tree x.0, symbols source.now x.1.now)) result
+        (fold_at (symbols source.now tokens.now)) }
 {
     let (table, rest) = name_at(alloc, source, tokens)?;
     let rest = word_at(source, b"by", rest)?;
@@ -59,7 +62,8 @@ fn test_at<'t>(
     source: &[u8],
     tokens: &'t [Token],
 ) -> Result<(TestPart, &'t [Token]), LineFault>
-    ensures { Gives (λ x. (test_tree x.0, symbols source.now x.1.now)) result (test_at (symbols source.now tokens.now)) }
+    ensures { Gives (λ x. (test_tree x.0, symbols source.now x.1.now)) result
+        (test_at (symbols source.now tokens.now)) }
 {
     if let Some(rest) = word(source, b"sum", tokens) {
         let (name, rest) = name_at(alloc, source, rest)?;
@@ -76,7 +80,8 @@ fn test_at<'t>(
 
 #[tactic(auto, unfolding(crate::specs::Rules::shape_at))]
 fn shape_at<'t>(source: &[u8], tokens: &'t [Token]) -> Result<(Shape, &'t [Token]), LineFault>
-    ensures { Gives (λ x. (x.0, symbols source.now x.1.now)) result (shape_at (symbols source.now tokens.now)) }
+    ensures { Gives (λ x. (x.0, symbols source.now x.1.now)) result
+        (shape_at (symbols source.now tokens.now)) }
 {
     if let Some(rest) = word(source, b"sublists", tokens) {
         return Ok((Shape::Sublists, rest));
@@ -97,7 +102,8 @@ fn shape_at<'t>(source: &[u8], tokens: &'t [Token]) -> Result<(Shape, &'t [Token
 /// Whether the greatest is asked for, or the least.
 #[tactic(auto, unfolding(crate::specs::Rules::end_at))]
 fn end_at<'t>(source: &[u8], tokens: &'t [Token]) -> Result<(bool, &'t [Token]), LineFault>
-    ensures { Gives (λ x. (x.0, symbols source.now x.1.now)) result (end_at (symbols source.now tokens.now)) }
+    ensures { Gives (λ x. (x.0, symbols source.now x.1.now)) result
+        (end_at (symbols source.now tokens.now)) }
 {
     if let Some(rest) = word(source, b"max", tokens) {
         return Ok((true, rest));
@@ -112,7 +118,8 @@ fn best_at<'t>(
     source: &[u8],
     tokens: &'t [Token],
 ) -> Result<(GoalPart, &'t [Token]), LineFault>
-    ensures { Gives (λ x. (x.0, symbols source.now x.1.now)) result (best_at (symbols source.now tokens.now)) }
+    ensures { Gives (λ x. (x.0, symbols source.now x.1.now)) result
+        (best_at (symbols source.now tokens.now)) }
 {
     let (k, rest) = digits_at(source, tokens)?;
     let (greatest, rest) = end_at(source, rest)?;
@@ -126,7 +133,8 @@ fn goal_at<'t>(
     source: &[u8],
     tokens: &'t [Token],
 ) -> Result<(GoalPart, &'t [Token]), LineFault>
-    ensures { Gives (λ x. (x.0, symbols source.now x.1.now)) result (goal_at (symbols source.now tokens.now)) }
+    ensures { Gives (λ x. (x.0, symbols source.now x.1.now)) result
+        (goal_at (symbols source.now tokens.now)) }
 {
     if let Some(rest) = word(source, b"count", tokens) {
         return Ok((GoalPart::Count, rest));
@@ -152,7 +160,8 @@ fn measure_at<'t>(
     source: &[u8],
     tokens: &'t [Token],
 ) -> Result<(PartKind, &'t [Token]), LineFault>
-    ensures { Gives (λ x. (kind_tree x.0, symbols source.now x.1.now)) result (measure_at (symbols source.now tokens.now)) }
+    ensures { Gives (λ x. (kind_tree x.0, symbols source.now x.1.now)) result
+        (measure_at (symbols source.now tokens.now)) }
 {
     let (name, rest) = name_at(alloc, source, tokens)?;
     let rest = sign_at(source, b"=", rest)?;
@@ -166,7 +175,8 @@ fn table_at<'t>(
     source: &[u8],
     tokens: &'t [Token],
 ) -> Result<(PartKind, &'t [Token]), LineFault>
-    ensures { Gives (λ x. (kind_tree x.0, symbols source.now x.1.now)) result (table_at (symbols source.now tokens.now)) }
+    ensures { Gives (λ x. (kind_tree x.0, symbols source.now x.1.now)) result
+        (table_at (symbols source.now tokens.now)) }
 {
     let (name, rest) = name_at(alloc, source, tokens)?;
     let rest = word_at(source, b"unit", rest)?;
@@ -189,7 +199,8 @@ fn times_at<'t>(
     source: &[u8],
     tokens: &'t [Token],
 ) -> Result<(PartKind, &'t [Token]), LineFault>
-    ensures { Gives (λ x. (kind_tree x.0, symbols source.now x.1.now)) result (times_at (symbols source.now tokens.now)) }
+    ensures { Gives (λ x. (kind_tree x.0, symbols source.now x.1.now)) result
+        (times_at (symbols source.now tokens.now)) }
 {
     let (table, rest) = name_at(alloc, source, tokens)?;
     let (element, rest) = name_at(alloc, source, rest)?;
@@ -211,7 +222,8 @@ fn line_at<'t>(
     source: &[u8],
     tokens: &'t [Token],
 ) -> Result<(PartKind, &'t [Token]), LineFault>
-    ensures { Gives (λ x. (kind_tree x.0, symbols source.now x.1.now)) result (line_at (symbols source.now tokens.now)) }
+    ensures { Gives (λ x. (kind_tree x.0, symbols source.now x.1.now)) result
+        (line_at (symbols source.now tokens.now)) }
 {
     if let Some(rest) = word(source, b"columns", tokens) {
         let (items, rest) = items_at(alloc, source, rest)?;

@@ -2,14 +2,15 @@
 //! of its name in specs/Rules.antt gives.
 ghost use Rattle.std.specs.Prelude.{◌≡◌, ℕ, length, map, codes};
 ghost use Rattle.gta_spec.specs.Parts.{case_tree, pick_tree};
-ghost use Rattle.gta_syntax.specs.Symbols.{symbols};
-ghost use Rattle.gta_syntax.specs.Rules.{Gives, many, list_at, begins_sign, begins_next_term, term_at, first_term_at};
-ghost use Rattle.gta_syntax.specs.Rules.{next_term_at, form_at, case_at, next_case_at, cases_at, pick_at, next_pick_at, picks_at};
+ghost use Rattle.gta_spec.specs.Symbols.{symbols};
+ghost use Rattle.gta_syntax.specs.Rules.{Gives, many, list_at, begins_sign, begins_next_term};
+ghost use Rattle.gta_syntax.specs.Rules.{term_at, first_term_at, next_term_at, form_at, case_at};
+ghost use Rattle.gta_syntax.specs.Rules.{next_case_at, cases_at, pick_at, next_pick_at, picks_at};
 
 use crate::fault::LineFault;
-use gta_spec::{CasePart, PickPart, TermPart};
 use crate::rules::if_at;
 use crate::symbols::{begins_sign, name_at, number, sign, sign_at};
+use gta_spec::{CasePart, PickPart, TermPart};
 use gta_text::Token;
 use std::alloc::Global;
 
@@ -20,7 +21,8 @@ fn term_at<'t>(
     minus: bool,
     tokens: &'t [Token],
 ) -> Result<(TermPart, &'t [Token]), LineFault>
-    ensures { Gives (λ x. (x.0, symbols source.now x.1.now)) result (term_at minus (symbols source.now tokens.now)) }
+    ensures { Gives (λ x. (x.0, symbols source.now x.1.now)) result
+        (term_at minus (symbols source.now tokens.now)) }
 {
     if let Some((value, rest)) = number(source, tokens) {
         let number = Some(value);
@@ -65,7 +67,8 @@ fn first_term_at<'t>(
     source: &[u8],
     tokens: &'t [Token],
 ) -> Result<(TermPart, &'t [Token]), LineFault>
-    ensures { Gives (λ x. (x.0, symbols source.now x.1.now)) result (first_term_at (symbols source.now tokens.now)) }
+    ensures { Gives (λ x. (x.0, symbols source.now x.1.now)) result
+        (first_term_at (symbols source.now tokens.now)) }
 {
     match sign(source, b"-", tokens) {
         Some(rest) => term_at(alloc, source, true, rest),
@@ -79,7 +82,8 @@ fn next_term_at<'t>(
     source: &[u8],
     tokens: &'t [Token],
 ) -> Result<(TermPart, &'t [Token]), LineFault>
-    ensures { Gives (λ x. (x.0, symbols source.now x.1.now)) result (next_term_at (symbols source.now tokens.now)) }
+    ensures { Gives (λ x. (x.0, symbols source.now x.1.now)) result
+        (next_term_at (symbols source.now tokens.now)) }
 {
     if let Some(rest) = sign(source, b"+", tokens) {
         return term_at(alloc, source, false, rest);
@@ -100,7 +104,8 @@ fn form_at<'t>(
     source: &[u8],
     tokens: &'t [Token],
 ) -> Result<(Vec<TermPart>, &'t [Token]), LineFault>
-    ensures { Gives (λ x. (x.0.items, symbols source.now x.1.now)) result (form_at (symbols source.now tokens.now)) }
+    ensures { Gives (λ x. (x.0.items, symbols source.now x.1.now)) result
+        (form_at (symbols source.now tokens.now)) }
 {
     let (first, rest) = first_term_at(alloc, source, tokens)?;
     let (mut terms, rest) = more_terms(alloc, source, rest)?;
@@ -113,7 +118,8 @@ fn more_terms<'t>(
     source: &[u8],
     tokens: &'t [Token],
 ) -> Result<(Vec<TermPart>, &'t [Token]), LineFault>
-    ensures { Gives (λ x. (x.0.items, symbols source.now x.1.now)) result (many begins_next_term next_term_at (length tokens.now) (symbols source.now tokens.now)) }
+    ensures { Gives (λ x. (x.0.items, symbols source.now x.1.now)) result
+        (many begins_next_term next_term_at (length tokens.now) (symbols source.now tokens.now)) }
 {
     let mut terms = Vec::new(alloc);
     let mut rest = tokens;
@@ -134,7 +140,8 @@ fn case_at<'t>(
     source: &[u8],
     tokens: &'t [Token],
 ) -> Result<(CasePart, &'t [Token]), LineFault>
-    ensures { Gives (λ x. (case_tree x.0, symbols source.now x.1.now)) result (case_at (symbols source.now tokens.now)) }
+    ensures { Gives (λ x. (case_tree x.0, symbols source.now x.1.now)) result
+        (case_at (symbols source.now tokens.now)) }
 {
     let (form, rest) = form_at(alloc, source, tokens)?;
     let (cond, rest) = if_at(alloc, source, rest)?;
@@ -147,7 +154,8 @@ fn next_case_at<'t>(
     source: &[u8],
     tokens: &'t [Token],
 ) -> Result<(CasePart, &'t [Token]), LineFault>
-    ensures { Gives (λ x. (case_tree x.0, symbols source.now x.1.now)) result (next_case_at (symbols source.now tokens.now)) }
+    ensures { Gives (λ x. (case_tree x.0, symbols source.now x.1.now)) result
+        (next_case_at (symbols source.now tokens.now)) }
 {
     let rest = sign_at(source, b";", tokens)?;
     case_at(alloc, source, rest)
@@ -159,7 +167,8 @@ pub(crate) fn cases_at<'t>(
     source: &[u8],
     tokens: &'t [Token],
 ) -> Result<(Vec<CasePart>, &'t [Token]), LineFault>
-    ensures { Gives (λ x. (map case_tree x.0.items, symbols source.now x.1.now)) result (cases_at (symbols source.now tokens.now)) }
+    ensures { Gives (λ x. (map case_tree x.0.items, symbols source.now x.1.now)) result
+        (cases_at (symbols source.now tokens.now)) }
 {
     let (first, rest) = case_at(alloc, source, tokens)?;
     let (mut cases, rest) = more_cases(alloc, source, rest)?;
@@ -172,7 +181,9 @@ fn more_cases<'t>(
     source: &[u8],
     tokens: &'t [Token],
 ) -> Result<(Vec<CasePart>, &'t [Token]), LineFault>
-    ensures { Gives (λ x. (map case_tree x.0.items, symbols source.now x.1.now)) result (many (begins_sign (codes ";")) next_case_at (length tokens.now) (symbols source.now tokens.now)) }
+    ensures { Gives (λ x. (map case_tree x.0.items, symbols source.now x.1.now)) result
+        (many (begins_sign (codes ";")) next_case_at (length tokens.now)
+        (symbols source.now tokens.now)) }
 {
     let mut cases = Vec::new(alloc);
     let mut rest = tokens;
@@ -193,7 +204,8 @@ fn pick_at<'t>(
     source: &[u8],
     tokens: &'t [Token],
 ) -> Result<(PickPart, &'t [Token]), LineFault>
-    ensures { Gives (λ x. (pick_tree x.0, symbols source.now x.1.now)) result (pick_at (symbols source.now tokens.now)) }
+    ensures { Gives (λ x. (pick_tree x.0, symbols source.now x.1.now)) result
+        (pick_at (symbols source.now tokens.now)) }
 {
     let (element, rest) = name_at(alloc, source, tokens)?;
     let (cond, rest) = if_at(alloc, source, rest)?;
@@ -206,7 +218,8 @@ fn next_pick_at<'t>(
     source: &[u8],
     tokens: &'t [Token],
 ) -> Result<(PickPart, &'t [Token]), LineFault>
-    ensures { Gives (λ x. (pick_tree x.0, symbols source.now x.1.now)) result (next_pick_at (symbols source.now tokens.now)) }
+    ensures { Gives (λ x. (pick_tree x.0, symbols source.now x.1.now)) result
+        (next_pick_at (symbols source.now tokens.now)) }
 {
     let rest = sign_at(source, b";", tokens)?;
     pick_at(alloc, source, rest)
@@ -218,7 +231,8 @@ pub(crate) fn picks_at<'t>(
     source: &[u8],
     tokens: &'t [Token],
 ) -> Result<(Vec<PickPart>, &'t [Token]), LineFault>
-    ensures { Gives (λ x. (map pick_tree x.0.items, symbols source.now x.1.now)) result (picks_at (symbols source.now tokens.now)) }
+    ensures { Gives (λ x. (map pick_tree x.0.items, symbols source.now x.1.now)) result
+        (picks_at (symbols source.now tokens.now)) }
 {
     let (first, rest) = pick_at(alloc, source, tokens)?;
     let (mut picks, rest) = more_picks(alloc, source, rest)?;
@@ -231,7 +245,9 @@ fn more_picks<'t>(
     source: &[u8],
     tokens: &'t [Token],
 ) -> Result<(Vec<PickPart>, &'t [Token]), LineFault>
-    ensures { Gives (λ x. (map pick_tree x.0.items, symbols source.now x.1.now)) result (many (begins_sign (codes ";")) next_pick_at (length tokens.now) (symbols source.now tokens.now)) }
+    ensures { Gives (λ x. (map pick_tree x.0.items, symbols source.now x.1.now)) result
+        (many (begins_sign (codes ";")) next_pick_at (length tokens.now)
+        (symbols source.now tokens.now)) }
 {
     let mut picks = Vec::new(alloc);
     let mut rest = tokens;

@@ -1,23 +1,23 @@
-//! Reading a specification. Which specification a text is, is in specs/SpecText.antt, and the
-//! refusals in their order are in specs/Refusals.antt.
+//! Reading a specification. The refusals in their order are in specs/Refused.antt, and as a
+//! function in specs/Refusals.antt; which specification a text is, is in gta_spec.
 ghost use Rattle.std.specs.Prelude.{◌≡◌, ◌≢◌, ℕ, ◌≤◌, length, map, Ok, Err, IfOk, IsErrOf};
 ghost use Rattle.gta_text.specs.Text.{line_view};
 ghost use Rattle.gta_text.specs.declared.lines.TheConstants.{INPUT_BOUND};
 ghost use Rattle.gta_spec.specs.Parts.{part_tree, SpecTree, spec_tree};
-ghost use Rattle.gta_syntax.specs.Symbols.{symbols};
+ghost use Rattle.gta_spec.specs.Symbols.{symbol_of, symbols};
 ghost use Rattle.gta_syntax.specs.Rules.{part_at};
-ghost use Rattle.gta_syntax.specs.SpecText.{SpecText, is_version, is_past, has_past};
-ghost use Rattle.gta_syntax.specs.Symbols.{symbol_of};
+ghost use Rattle.gta_spec.specs.SpecText.{SpecText, is_version, is_past, has_past};
 ghost use Rattle.gta_spec.specs.WellFormed.{IsWellFormed};
 ghost use Rattle.gta_syntax.specs.Refused.{IsRefused};
 ghost use Rattle.gta_syntax.specs.declared.fault.SpecFault.{SpecFault};
 ghost use Rattle.gta_syntax.specs.declared.fault.SpecFault.TheVariants.{Memory};
-ghost use Rattle.gta_syntax.specs.Refusals.{first_past, the_part, parts_from, read_tree, spec_of, Answers};
+ghost use Rattle.gta_syntax.specs.Refusals.{first_past, the_part, parts_from, read_tree};
+ghost use Rattle.gta_syntax.specs.Refusals.{spec_of, Answers};
 
 use crate::fault::{LineFault, SpecFault};
 use crate::line_rules::part_at;
-use gta_spec::{Part, Spec};
 use crate::symbols::value_of;
+use gta_spec::{Part, Spec};
 use gta_text::{INPUT_BOUND, Line, NUMBER_BOUND, Token, TokenKind, lines_of};
 use std::alloc::Global;
 
@@ -35,11 +35,14 @@ pub fn read_spec(alloc: Global, bytes: &[u8]) -> Result<Read, SpecFault>
     ensures found { IfOk result (λ read. SpecText bytes.now (spec_tree read.spec) read.rows_at) }
     ensures well_formed { IfOk result (λ read. IsWellFormed (spec_tree read.spec)) }
     // A text that is a specification is read, unless memory runs out.
-    ensures only { (spec : SpecTree) (place : ℕ) → SpecText bytes.now spec place → Answers read_tree result (Ok (record { spec = spec; rows_at = place })) }
+    ensures only { (spec : SpecTree) (place : ℕ) → SpecText bytes.now spec place
+        → Answers read_tree result (Ok (record { spec = spec; rows_at = place })) }
 
     // Each refusal comes where it stands, and only there.
-    ensures refused { (fault : SpecFault) → IsErrOf result fault → fault ≢ Memory → IsRefused bytes.now fault }
-    ensures refuses { (fault : SpecFault) → IsRefused bytes.now fault → Answers read_tree result (Err fault) }
+    ensures refused { (fault : SpecFault) → IsErrOf result fault → fault ≢ Memory
+        → IsRefused bytes.now fault }
+    ensures refuses { (fault : SpecFault) → IsRefused bytes.now fault
+        → Answers read_tree result (Err fault) }
 
     // The same by a function of the bytes.
     ensures exact { Answers read_tree result (spec_of bytes.now) }
@@ -86,7 +89,8 @@ fn is_version(source: &[u8], tokens: &[Token]) -> bool
 
 /// The parts of the lines; `Grammar` names the first line that has none.
 fn parts_of(alloc: Global, source: &[u8], lines: &[Line]) -> Result<Vec<Part>, SpecFault>
-    ensures { Answers (λ parts. map part_tree parts.items) result (parts_from source.now (map line_view lines.now)) }
+    ensures { Answers (λ parts. map part_tree parts.items) result
+        (parts_from source.now (map line_view lines.now)) }
 {
     let mut parts = Vec::new(alloc);
     for line in lines {
@@ -97,7 +101,8 @@ fn parts_of(alloc: Global, source: &[u8], lines: &[Line]) -> Result<Vec<Part>, S
 }
 
 fn part_of(alloc: Global, source: &[u8], line: &Line) -> Result<Part, SpecFault>
-    ensures { Answers part_tree result (the_part line.now.number (part_at (symbols source.now line.now.tokens.items))) }
+    ensures { Answers part_tree result
+        (the_part line.now.number (part_at (symbols source.now line.now.tokens.items))) }
 {
     let number = line.number;
     match part_at(alloc, source, &line.tokens) {

@@ -1,15 +1,16 @@
 //! Reading names, numbers, columns and conditions: each function gives what the definition of its
 //! name in specs/Rules.antt gives.
 ghost use Rattle.std.specs.Prelude.{◌≡◌, ℕ, length, codes};
-ghost use Rattle.gta_syntax.specs.Symbols.{symbols};
-ghost use Rattle.gta_syntax.specs.Rules.{Gives, many, list_at, begins_name, begins_word, name_at, names_at};
-ghost use Rattle.gta_syntax.specs.Rules.{num_at, item_at, cmp_at, atom_at, and_at, cond_at, if_at};
+ghost use Rattle.gta_spec.specs.Symbols.{symbols};
+ghost use Rattle.gta_syntax.specs.Rules.{Gives, many, list_at, begins_name, begins_word, name_at};
+ghost use Rattle.gta_syntax.specs.Rules.{names_at, num_at, item_at, cmp_at, atom_at, and_at};
+ghost use Rattle.gta_syntax.specs.Rules.{cond_at, if_at};
 
 use crate::fault::LineFault;
-use gta_spec::{AtomPart, Cmp, ColumnItem};
 use crate::symbols::{
     begins_name, begins_word, digits_at, name_at, sign, sign_at, text_at, word, word_at,
 };
+use gta_spec::{AtomPart, Cmp, ColumnItem};
 use gta_text::{Name, Token};
 use std::alloc::Global;
 
@@ -19,7 +20,8 @@ pub(crate) fn names_at<'t>(
     source: &[u8],
     tokens: &'t [Token],
 ) -> Result<(Vec<Name>, &'t [Token]), LineFault>
-    ensures { Gives (λ x. (x.0.items, symbols source.now x.1.now)) result (names_at (symbols source.now tokens.now)) }
+    ensures { Gives (λ x. (x.0.items, symbols source.now x.1.now)) result
+        (names_at (symbols source.now tokens.now)) }
 {
     let (first, rest) = name_at(alloc, source, tokens)?;
     let (mut names, rest) = more_names(alloc, source, rest)?;
@@ -32,7 +34,8 @@ fn more_names<'t>(
     source: &[u8],
     tokens: &'t [Token],
 ) -> Result<(Vec<Name>, &'t [Token]), LineFault>
-    ensures { Gives (λ x. (x.0.items, symbols source.now x.1.now)) result (many begins_name name_at (length tokens.now) (symbols source.now tokens.now)) }
+    ensures { Gives (λ x. (x.0.items, symbols source.now x.1.now)) result
+        (many begins_name name_at (length tokens.now) (symbols source.now tokens.now)) }
 {
     let mut names = Vec::new(alloc);
     let mut rest = tokens;
@@ -52,7 +55,8 @@ pub(crate) fn num_at<'t>(
     source: &[u8],
     tokens: &'t [Token],
 ) -> Result<(i64, &'t [Token]), LineFault>
-    ensures { Gives (λ x. (x.0, symbols source.now x.1.now)) result (num_at (symbols source.now tokens.now)) }
+    ensures { Gives (λ x. (x.0, symbols source.now x.1.now)) result
+        (num_at (symbols source.now tokens.now)) }
 {
     if let Some(rest) = sign(source, b"-", tokens) {
         let (number, rest) = digits_at(source, rest)?;
@@ -68,7 +72,8 @@ fn item_at<'t>(
     source: &[u8],
     tokens: &'t [Token],
 ) -> Result<(ColumnItem, &'t [Token]), LineFault>
-    ensures { Gives (λ x. (x.0, symbols source.now x.1.now)) result (item_at (symbols source.now tokens.now)) }
+    ensures { Gives (λ x. (x.0, symbols source.now x.1.now)) result
+        (item_at (symbols source.now tokens.now)) }
 {
     let (name, rest) = name_at(alloc, source, tokens)?;
     if let Some(after) = sign(source, b"=", rest) {
@@ -86,7 +91,8 @@ pub(crate) fn items_at<'t>(
     source: &[u8],
     tokens: &'t [Token],
 ) -> Result<(Vec<ColumnItem>, &'t [Token]), LineFault>
-    ensures { Gives (λ x. (x.0.items, symbols source.now x.1.now)) result (list_at item_at begins_name item_at (symbols source.now tokens.now)) }
+    ensures { Gives (λ x. (x.0.items, symbols source.now x.1.now)) result
+        (list_at item_at begins_name item_at (symbols source.now tokens.now)) }
 {
     let (first, rest) = item_at(alloc, source, tokens)?;
     let (mut items, rest) = more_items(alloc, source, rest)?;
@@ -99,7 +105,8 @@ fn more_items<'t>(
     source: &[u8],
     tokens: &'t [Token],
 ) -> Result<(Vec<ColumnItem>, &'t [Token]), LineFault>
-    ensures { Gives (λ x. (x.0.items, symbols source.now x.1.now)) result (many begins_name item_at (length tokens.now) (symbols source.now tokens.now)) }
+    ensures { Gives (λ x. (x.0.items, symbols source.now x.1.now)) result
+        (many begins_name item_at (length tokens.now) (symbols source.now tokens.now)) }
 {
     let mut items = Vec::new(alloc);
     let mut rest = tokens;
@@ -119,7 +126,8 @@ pub(crate) fn cmp_at<'t>(
     source: &[u8],
     tokens: &'t [Token],
 ) -> Result<(Cmp, &'t [Token]), LineFault>
-    ensures { Gives (λ x. (x.0, symbols source.now x.1.now)) result (cmp_at (symbols source.now tokens.now)) }
+    ensures { Gives (λ x. (x.0, symbols source.now x.1.now)) result
+        (cmp_at (symbols source.now tokens.now)) }
 {
     if let Some(rest) = sign(source, b"<=", tokens) {
         return Ok((Cmp::AtMost, rest));
@@ -137,7 +145,8 @@ fn atom_at<'t>(
     source: &[u8],
     tokens: &'t [Token],
 ) -> Result<(AtomPart, &'t [Token]), LineFault>
-    ensures { Gives (λ x. (x.0, symbols source.now x.1.now)) result (atom_at (symbols source.now tokens.now)) }
+    ensures { Gives (λ x. (x.0, symbols source.now x.1.now)) result
+        (atom_at (symbols source.now tokens.now)) }
 {
     if let Some(rest) = word(source, b"label", tokens) {
         let (label, rest) = name_at(alloc, source, rest)?;
@@ -155,7 +164,8 @@ fn and_at<'t>(
     source: &[u8],
     tokens: &'t [Token],
 ) -> Result<(AtomPart, &'t [Token]), LineFault>
-    ensures { Gives (λ x. (x.0, symbols source.now x.1.now)) result (and_at (symbols source.now tokens.now)) }
+    ensures { Gives (λ x. (x.0, symbols source.now x.1.now)) result
+        (and_at (symbols source.now tokens.now)) }
 {
     let rest = word_at(source, b"and", tokens)?;
     atom_at(alloc, source, rest)
@@ -167,7 +177,8 @@ fn cond_at<'t>(
     source: &[u8],
     tokens: &'t [Token],
 ) -> Result<(Vec<AtomPart>, &'t [Token]), LineFault>
-    ensures { Gives (λ x. (x.0.items, symbols source.now x.1.now)) result (cond_at (symbols source.now tokens.now)) }
+    ensures { Gives (λ x. (x.0.items, symbols source.now x.1.now)) result
+        (cond_at (symbols source.now tokens.now)) }
 {
     let (first, rest) = atom_at(alloc, source, tokens)?;
     let (mut atoms, rest) = more_atoms(alloc, source, rest)?;
@@ -180,7 +191,9 @@ fn more_atoms<'t>(
     source: &[u8],
     tokens: &'t [Token],
 ) -> Result<(Vec<AtomPart>, &'t [Token]), LineFault>
-    ensures { Gives (λ x. (x.0.items, symbols source.now x.1.now)) result (many (begins_word (codes "and")) and_at (length tokens.now) (symbols source.now tokens.now)) }
+    ensures { Gives (λ x. (x.0.items, symbols source.now x.1.now)) result
+        (many (begins_word (codes "and")) and_at (length tokens.now)
+        (symbols source.now tokens.now)) }
 {
     let mut atoms = Vec::new(alloc);
     let mut rest = tokens;
@@ -201,7 +214,8 @@ pub(crate) fn if_at<'t>(
     source: &[u8],
     tokens: &'t [Token],
 ) -> Result<(Vec<AtomPart>, &'t [Token]), LineFault>
-    ensures { Gives (λ x. (x.0.items, symbols source.now x.1.now)) result (if_at (symbols source.now tokens.now)) }
+    ensures { Gives (λ x. (x.0.items, symbols source.now x.1.now)) result
+        (if_at (symbols source.now tokens.now)) }
 {
     match word(source, b"if", tokens) {
         Some(rest) => cond_at(alloc, source, rest),

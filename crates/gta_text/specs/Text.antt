@@ -117,7 +117,9 @@ Gives view (Err fault) read = Fails fault read
 -- tokens between two places, in order, each with a byte or more
 abbrev pub AreInOrder : ℕ → ℕ → List Token → Type 0
 AreInOrder lo hi [] = Unit {0}
-AreInOrder lo hi (token ∷ tokens) = (lo ≤ token.start) × (token.start < token.end) × (token.end ≤ hi) × AreInOrder token.end hi tokens
+AreInOrder lo hi (token ∷ tokens) =
+    (lo ≤ token.start) × (token.start < token.end) × (token.end ≤ hi)
+    × AreInOrder token.end hi tokens
 
 -- the line's tokens are those of a part of the source, at its place
 pub record IsHeld (source : List ℕ) (line : Numbered) : Type 0 where

@@ -1,12 +1,13 @@
 //! Lines of a text. The first line is in specs/Lines.antt, and the lines of tokens before the line
 //! `rows` are in specs/Text.antt.
-ghost use Rattle.std.specs.Prelude.{◌≡◌, ◌+◌, ◌<◌, ◌≤◌, length, map, min, option_map, IfOk, IfSome, OnOk, ◌++◌};
+ghost use Rattle.std.specs.Prelude.{◌≡◌, ◌+◌, ◌<◌, ◌≤◌, ◌++◌, length, map, min, option_map};
+ghost use Rattle.std.specs.Prelude.{IfOk, IfSome, OnOk};
 ghost use Rattle.std.specs.List.{prefix_len};
 ghost use Rattle.std.specs.Str.{bytes_eq};
 ghost use Rattle.gta_text.specs.Lines.{is_inside, split_line};
 ghost use Rattle.gta_text.specs.Text.{without_last, content, is_plain, first_bad, is_rows};
-ghost use Rattle.gta_text.specs.Text.{mark_length, read_lines, line_view, line_if, lines_view, Gives};
-ghost use Rattle.gta_text.specs.Text.{AreHeld};
+ghost use Rattle.gta_text.specs.Text.{mark_length, read_lines, line_view, line_if, lines_view};
+ghost use Rattle.gta_text.specs.Text.{Gives, AreHeld};
 
 use crate::fault::TextFault;
 use crate::token::{Token, TokenKind};
@@ -33,7 +34,8 @@ pub struct Lines {
 
 /// The lines of a text, up to the line whose only token is the word `rows`. A mark EF BB BF at the
 /// beginning, a comment from `#` on, and a CR at a line's end are passed over.
-/// `Byte` names the first byte before that line that is no tab, LF, CR at a line's end, or 32 to 126.
+/// `Byte` names the first byte before that line that is no tab, LF, CR at a line's end, or 32 to
+/// 126.
 pub fn lines_of(alloc: Global, bytes: &[u8]) -> Result<Lines, TextFault>
     requires { length bytes.now ≤ INPUT_BOUND }
     ensures exact { Gives lines_view result (read_lines bytes.now) }
@@ -82,7 +84,8 @@ fn read_lines(alloc: Global, bytes: &[u8]) -> Result<Lines, TextFault>
 
 /// Adds the line, where it has tokens.
 fn add_line(lines: &mut Vec<Line>, number: u32, tokens: Vec<Token>) -> Result<(), AllocError>
-    ensures { OnOk result (map line_view lines.new.items ≡ map line_view lines.old.items ++ line_if number tokens.items) }
+    ensures { OnOk result (map line_view lines.new.items ≡ map line_view lines.old.items
+        ++ line_if number tokens.items) }
 {
     if !tokens.is_empty() {
         lines.push(Line { number, tokens })?;

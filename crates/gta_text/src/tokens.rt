@@ -3,8 +3,8 @@ ghost use Rattle.std.specs.Prelude.{◌≡◌, ◌+◌, ◌<◌, ◌≤◌, ◌^
 ghost use Rattle.std.specs.List.{prefix_len};
 ghost use Rattle.gta_text.specs.Numbers.{is_digit};
 ghost use Rattle.gta_text.specs.Names.{is_word_byte};
-ghost use Rattle.gta_text.specs.Tokens.{is_blank, is_text_byte, is_sign, may_begin_sign, next_is, quoted_at};
-ghost use Rattle.gta_text.specs.Tokens.{token_at, tokens_from};
+ghost use Rattle.gta_text.specs.Tokens.{is_blank, is_text_byte, is_sign, may_begin_sign, next_is};
+ghost use Rattle.gta_text.specs.Tokens.{quoted_at, token_at, tokens_from};
 
 use crate::numbers::is_digit;
 use crate::token::{Token, TokenKind};

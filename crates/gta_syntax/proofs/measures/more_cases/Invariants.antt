@@ -1,6 +1,6 @@
 use Rattle.std.specs.Prelude.{◌-◌, length, map, codes}
 use Rattle.gta_spec.specs.Parts.{case_tree}
-use Rattle.gta_syntax.specs.Symbols.{symbols}
+use Rattle.gta_spec.specs.Symbols.{symbols}
 use Rattle.gta_syntax.specs.Rules.{many, begins_sign, next_case_at}
 use Rattle.gta_syntax.proofs.Loops.{SoFar}
 use Rattle.gta_syntax.proofs.measures.more_cases.Given as goal

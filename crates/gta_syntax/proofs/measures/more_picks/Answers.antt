@@ -2,7 +2,7 @@ use Rattle.std.proofs.Common.{◌≡◌, ◌+◌, ◌-◌, length, map, ◌++◌
 use Rattle.std.proofs.lemmas.Result.{err_from_is_err_and}
 use Rattle.std.proofs.lemmas.List.{map_push}
 use Rattle.gta_spec.specs.Parts.{pick_tree}
-use Rattle.gta_syntax.specs.Symbols.{symbols}
+use Rattle.gta_spec.specs.Symbols.{symbols}
 use Rattle.gta_syntax.proofs.Loops.{at_stop, at_done, at_item, at_fault}
 use Rattle.gta_syntax.proofs.measures.more_picks.Goals as goal
 

@@ -1,6 +1,6 @@
 use Rattle.std.proofs.Common.{◌+◌, ◌-◌, length, arith, sym}
 use Rattle.std.proofs.lemmas.Result.{err_from_is_err_and}
-use Rattle.gta_syntax.specs.Symbols.{symbols}
+use Rattle.gta_spec.specs.Symbols.{symbols}
 use Rattle.gta_syntax.proofs.Loops.{at_stop, at_done, at_item, at_fault}
 use Rattle.gta_syntax.proofs.measures.more_terms.Goals as goal
 

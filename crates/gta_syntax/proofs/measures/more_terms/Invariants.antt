@@ -1,5 +1,5 @@
 use Rattle.std.specs.Prelude.{◌-◌, length}
-use Rattle.gta_syntax.specs.Symbols.{symbols}
+use Rattle.gta_spec.specs.Symbols.{symbols}
 use Rattle.gta_syntax.specs.Rules.{many, begins_next_term, next_term_at}
 use Rattle.gta_syntax.proofs.Loops.{SoFar}
 use Rattle.gta_syntax.proofs.measures.more_terms.Given as goal

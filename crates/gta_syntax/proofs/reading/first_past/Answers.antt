@@ -1,7 +1,8 @@
 use Rattle.std.proofs.Common.{◌≡◌, ◌+◌, ◌∷◌, [], drop, arith, sym, ◌∙◌}
 use Rattle.std.proofs.lemmas.Grind.{common_steps}
 use Rattle.gta_text.specs.Text.{line_view}
-use Rattle.gta_syntax.proofs.PartLoops.{drop_at, past_here, past_later, past_nowhere}
+use Rattle.gta_spec.proofs.Items.{drop_at}
+use Rattle.gta_syntax.proofs.PartLoops.{past_here, past_later, past_nowhere}
 use Rattle.gta_syntax.proofs.reading.first_past.Goals as goal
 
 pub returns-then-has_past : goal.returns-then-has_past

@@ -3,7 +3,8 @@ use Rattle.std.proofs.lemmas.Grind.{common_steps}
 use Rattle.std.proofs.lemmas.Result.{err_from_is_err_and}
 use Rattle.std.proofs.lemmas.List.{map_push}
 use Rattle.gta_spec.specs.Parts.{part_tree}
-use Rattle.gta_syntax.proofs.PartLoops.{drop_at, parts_at_end, parts_at_line, parts_at_fault}
+use Rattle.gta_spec.proofs.Items.{drop_at}
+use Rattle.gta_syntax.proofs.PartLoops.{parts_at_end, parts_at_line, parts_at_fault}
 use Rattle.gta_syntax.proofs.reading.parts_of.Goals as goal
 
 pub returns-in_err-part : goal.returns-in_err-part

@@ -1,5 +1,5 @@
 use Rattle.std.specs.Prelude.{◌-◌, length, codes}
-use Rattle.gta_syntax.specs.Symbols.{symbols}
+use Rattle.gta_spec.specs.Symbols.{symbols}
 use Rattle.gta_syntax.specs.Rules.{many, begins_word, and_at}
 use Rattle.gta_syntax.proofs.Loops.{SoFar}
 use Rattle.gta_syntax.proofs.rules.more_atoms.Given as goal

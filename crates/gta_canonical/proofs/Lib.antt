@@ -1,0 +1,4 @@
+pub mod Fronts
+pub mod Lexed
+pub mod Spelled
+pub mod ReadBack

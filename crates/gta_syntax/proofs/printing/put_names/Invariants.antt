@@ -1,7 +1,0 @@
-use Rattle.std.proofs.Common.{◌++◌, [], drop}
-use Rattle.gta_syntax.specs.Canonical.{line_text, fronts, name_front}
-use Rattle.gta_syntax.proofs.Fronts.{Written}
-use Rattle.gta_syntax.proofs.printing.put_names.Given as goal
-
-abbrev pub invariant-loop-name : goal.invariant-loop-name
-invariant-loop-name l = Written name_front l.out.items (drop l.name-index l.names) (l.initial.out.items ++ line_text (fronts name_front l.names []))
