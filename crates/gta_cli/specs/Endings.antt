@@ -6,7 +6,7 @@ use Rattle.gta_port.specs.Port.{GainsFront}
 use Rattle.gta_port.specs.declared.reading.ReadEnd.{ReadEnd}
 use Rattle.gta_port.specs.declared.reading.ReadEnd.TheVariants as read
 use Rattle.gta_words.specs.declared.words.Command.{Command}
-use Rattle.gta_job.specs.declared.refusal.Refusal.TheVariants.{Input}
+use Rattle.report_text.specs.declared.refusal.Refusal.TheVariants.{Input}
 use Rattle.gta_job.specs.declared.job.JobEnd.{JobEnd}
 use Rattle.gta_job.specs.declared.job.JobEnd.TheVariants as job
 use Rattle.gta_job.specs.Jobs.{refusal_of, text_of}

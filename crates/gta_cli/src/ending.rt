@@ -7,9 +7,10 @@ ghost use Rattle.gta_port.specs.Port.{Rose};
 ghost use Rattle.gta_words.specs.Words.{command_of};
 ghost use Rattle.gta_cli.specs.Endings.{IsText, Explains};
 
-use gta_job::{INPUT_LIMIT, JobEnd, Refusal, answer_job};
+use gta_job::{INPUT_LIMIT, JobEnd, answer_job, show_job};
 use gta_port::{ReadEnd, Source, read_all};
 use gta_words::{Command, read_words};
+use report_text::Refusal;
 use std::alloc::Global;
 use std::thread::Threads;
 
@@ -20,7 +21,7 @@ const WORKERS: u32 = 4;
 const LEAF: u32 = 64;
 
 /// Why there is no text.
-#[derive(Clone, Copy, PartialEq, Eq, Debug)]
+#[derive(Debug, Drop)]
 pub enum Ending {
     /// The words are no command.
     Usage,
@@ -79,5 +80,6 @@ pub(crate) fn answer<R: Threads + Sync, S: Source>(
     let bytes = read_all(alloc, source, INPUT_LIMIT)?;
     match command {
         Command::Run => Ok(answer_job(rt, alloc, bytes.as_slice(), WORKERS, LEAF)?),
+        Command::Show => Ok(show_job(alloc, bytes.as_slice())?),
     }
 }

@@ -1,4 +1,7 @@
-//! The worked examples over the top call: what is printed and where, limits, and faults at each call.
+//! The worked examples over the top call: what is printed and where, limits of the input, and faults at each call.
+//! tests/specs.rt has those of specifications: refusals in their order, limits, and `show`.
+
+mod specs;
 
 use super::top::gta_main;
 use gta_port::{MemorySink, MemorySource};
@@ -48,7 +51,7 @@ fn words_of(alloc: Global, texts: &[&str]) -> Result<Vec<String>, Fail> {
 
 fn sink(alloc: Global, chunk: u8, fails: &[u64]) -> Result<MemorySink, Fail> {
     let fails = Vec::from_slice(alloc, fails)?;
-    Ok(MemorySink::new(alloc, 200, usize::from(chunk.max(1)), fails)?)
+    Ok(MemorySink::new(alloc, 2000, usize::from(chunk.max(1)), fails)?)
 }
 
 fn called<R: Threads + Sync>(
@@ -126,7 +129,9 @@ fn cells_of_the_small_form(rt: HostRuntime) -> Result<(), Fail> {
 fn sums_under_a_bound(rt: HostRuntime) -> Result<(), Fail> {
     let negative: &[u8] = b"refused 40: test 1, row 1: value -3 is negative\n";
     let unbuilt: &[u8] = b"refused 1: not built yet\n";
-    let cases: [(&[u8], &[u8], &[u8], &[u8]); 10] = [
+    let past: &[u8] = b"refused 25: line 4: limit bound\n";
+    let unknown: &[u8] = b"refused 20: line 4: unknown name w\n";
+    let cases: [(&[u8], &[u8], &[u8], &[u8]); 11] = [
         (b"test sum v <= 5\n", b"3\n4\n2\n", b"answer 5\n", b""),
         (b"test sum v <= 0\n", b"0\n1\n", b"answer 0\n", b""),
         (b"test sum v <= 7\n", b"3\n4\n2\n", b"answer 7\n", b""),
@@ -139,9 +144,10 @@ fn sums_under_a_bound(rt: HostRuntime) -> Result<(), Fail> {
             b"",
         ),
         (b"test sum v <= 5\n", b"-3\n", b"", negative),
-        (b"test sum v <= 8191\n", b"1\n", b"", unbuilt),
-        (b"test sum v <= 00005\n", b"1\n", b"", unbuilt),
-        (b"test sum w <= 5\n", b"1\n", b"", unbuilt),
+        (b"test sum v <= 8191\n", b"1\n", b"", past),
+        (b"  test sum v<=00005 # \n", b"1\n", b"answer 1\n", b""),
+        (b"test sum w <= 5\n", b"1\n", b"", unknown),
+        (b"test sum v >= 5\n", b"1\n", b"", unbuilt),
     ];
     for (test, cells, out, err) in cases {
         let mut input = Vec::from_slice(rt.alloc(), b"gta 1\ncolumns v\ngenerate sublists\n")?;
@@ -159,33 +165,85 @@ fn sums_under_a_bound(rt: HostRuntime) -> Result<(), Fail> {
     Ok(())
 }
 
+// An input, and what is printed where: jobs that aren't built, and other spellings of one that is.
 #[test]
-fn inputs_of_another_form_are_not_built(rt: HostRuntime) -> Result<(), Fail> {
-    let inputs: [&[u8]; 8] = [
-        b"",
-        b"gta 1\ncolumns v\ngenerate sublists\naggregate count\nrows\nv\n1\n",
-        b"gta 1\ncolumns rows\ngenerate sublists\naggregate max rows\nrows\nrows\n1\n",
-        b"gta 1\ncolumns v\ngenerate sublists\naggregate max w\nrows\nv\n1\n",
-        b"gta 1\ncolumns v\ngenerate sublists\naggregate max v\nrows\nw\n1\n",
-        b"gta 1\ncolumns 1v\ngenerate sublists\naggregate max 1v\nrows\n1v\n1\n",
-        b"gta 1\ncolumns  v\ngenerate sublists\naggregate max v\nrows\nv\n1\n",
-        b"gta 1\ncolumns v",
+fn spellings_and_other_forms(rt: HostRuntime) -> Result<(), Fail> {
+    let unbuilt: &[u8] = b"refused 1: not built yet\n";
+    let cases: [(&[u8], &[u8], &[u8]); 11] = [
+        (
+            b"gta 1\ncolumns v\ngenerate sublists\naggregate count\nrows\nv\n1\n",
+            b"",
+            unbuilt,
+        ),
+        (
+            b"gta 1\ncolumns v\ngenerate segments\naggregate max v\nrows\nv\n1\n",
+            b"",
+            unbuilt,
+        ),
+        (
+            b"gta 1\ncolumns v w\ngenerate sublists\naggregate max v\nrows\nv\n1\n",
+            b"",
+            unbuilt,
+        ),
+        (
+            b"gta 1\ncolumns v=\"v\"\ngenerate sublists\naggregate max v\nrows\nv\n1\n",
+            b"",
+            unbuilt,
+        ),
+        (
+            b"gta 1\ncolumns v\nmeasure m = v\ngenerate sublists\naggregate max v\nrows\nv\n1\n",
+            b"",
+            unbuilt,
+        ),
+        (
+            b"gta 1\ncolumns v\ngenerate sublists\naggregate max v\nrows\nw\n1\n",
+            b"",
+            unbuilt,
+        ),
+        (
+            b"gta 1\ncolumns v\ngenerate sublists\naggregate max v\nrows",
+            b"",
+            unbuilt,
+        ),
+        (
+            b"gta 1\naggregate max v\ncolumns v\ngenerate sublists\nrows\nv\n2\n",
+            b"answer 2\n",
+            b"",
+        ),
+        (
+            b"\xef\xbb\xbf# a job\n\n gta\t1\r\ncolumns  v#c\ngenerate sublists\naggregate max v\n rows # t\nv\n-1\n3\n",
+            b"answer 3\n",
+            b"",
+        ),
+        (
+            b"gta 1\ncolumns v\ngenerate sublists\naggregate max v\nrows \xc3\x00#\nv\n",
+            b"",
+            b"refused 10: line 5, byte 6: not printable ASCII\n",
+        ),
+        (
+            b"gta 1\ncolumns v\ngenerate sublists\naggregate max v\nrows # \xc3\x00\nv\n5\n",
+            b"answer 5\n",
+            b"",
+        ),
     ];
-    for input in inputs {
+    for (input, out, err) in cases {
         let ended = called(&rt, rt.alloc(), &["run"], input, SMOOTH)?;
-        assert_eq!(rt; ended.status, 1, "status at {input:?}");
-        assert_eq!(rt;
-            ended.err.as_slice(),
-            b"refused 1: not built yet\n".as_slice(),
-            "at {input:?}"
-        );
+        assert_eq!(rt; ended.out.as_slice(), out, "output at {input:?}");
+        assert_eq!(rt; ended.err.as_slice(), err, "error output at {input:?}");
     }
     Ok(())
 }
 
 #[test]
 fn words_that_are_no_command(rt: HostRuntime) -> Result<(), Fail> {
-    let lists: [&[&str]; 5] = [&[], &["run", "x"], &["help"], &["Run"], &[""]];
+    let lists: [&[&str]; 6] = [
+        &[],
+        &["run", "x"],
+        &["show", "run"],
+        &["help"],
+        &["Run"],
+        &[""],
+    ];
     for texts in lists {
         let ended = called(&rt, rt.alloc(), texts, HEAD, SMOOTH)?;
         assert_eq!(rt; ended.status, 2, "status at {texts:?}");
@@ -214,20 +272,24 @@ fn the_most_rows(rt: HostRuntime) -> Result<(), Fail> {
     Ok(())
 }
 
-// Bytes that are no job; the first number is the most that is read as one.
+// A job that is filled up with a comment to so many bytes.
 #[test]
 fn the_most_bytes(rt: HostRuntime) -> Result<(), Fail> {
-    let cases: [(u32, &[u8]); 2] = [
-        (16_777_216, b"refused 1: not built yet\n"),
-        (16_777_217, b"refused 45: input past 16777216 bytes\n"),
+    let cases: [(u32, &[u8], &[u8]); 2] = [
+        (16_777_216, b"answer 7\n", b""),
+        (16_777_217, b"", b"refused 45: input past 16777216 bytes\n"),
     ];
-    for (count, err) in cases {
-        let mut input = Vec::new(rt.alloc());
-        for _ in 0..count {
+    for (count, out, err) in cases {
+        let job = with_head(rt.alloc(), b"7\n")?;
+        let mut input = Vec::from_slice(rt.alloc(), b"# ")?;
+        for _ in job.len() + 3..count as usize {
             input.push(b'x')?;
         }
+        input.push(b'\n')?;
+        input.extend_from_slice(job.as_slice())?;
         let ended = called(&rt, rt.alloc(), &["run"], input.as_slice(), SMOOTH)?;
-        assert_eq!(rt; ended.status, 1, "status at {count}");
+        assert_eq!(rt; input.len(), count as usize);
+        assert_eq!(rt; ended.out.as_slice(), out, "output at {count}");
         assert_eq!(rt; ended.err.as_slice(), err, "error output at {count}");
     }
     Ok(())
@@ -414,7 +476,7 @@ fn a_refusal_cut_by_a_fault(rt: HostRuntime) -> Result<(), Fail> {
     let cases: [(&[u64], u8, &[u8]); 3] = [
         (&[1], 4, b""),
         (&[3], 4, b"refused "),
-        (&[8], 1, b"refused 1: not built yet\n"),
+        (&[8], 1, b"refused 14: no line rows\n"),
     ];
     for (err_fails, status, err) in cases {
         let ports = Ports {

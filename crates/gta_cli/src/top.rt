@@ -9,14 +9,14 @@ ghost use Rattle.std.specs.Io.KnownBytes.{Appends, Keeps, IsAtEnd};
 ghost use Rattle.gta_port.specs.Port.{GainsFront, Rose};
 ghost use Rattle.gta_words.specs.Words.{command_of};
 ghost use Rattle.gta_job.specs.Jobs.{refusal_of, text_of};
-ghost use Rattle.gta_job.specs.Texts.{fault_text};
+ghost use Rattle.report_text.specs.Texts.{fault_text};
 ghost use Rattle.gta_cli.specs.Endings.{Says};
 ghost use Rattle.gta_cli.specs.Lines.{usage_line, read_fault_line, write_fault_line, out_of_memory_line};
 
 use crate::ending::{Ending, answer};
 use crate::says::{said, say};
-use gta_job::fault_line;
 use gta_port::{Sink, Source, write_all_of};
+use report_text::fault_line;
 use std::alloc::Global;
 use std::thread::Threads;
 

@@ -1,5 +1,5 @@
 -- The first row past the weight bound, and the first with a negative value.
-use Rattle.std.proofs.Common.{◌≡◌, refl, sym, ap, ◌∙◌, subst, ℕ, zero, suc, ◌+◌, ◌<◌, ◌≤◌, ℤ, pos, ◌<ℤ◌, ◌≤ℤ◌, Bool, true, false, List, [], ◌∷◌, length, filter, take, sum_by, Option, Some, None, slice_get, slice_index_or, nat_lt, arith, inl, inr}
+use Rattle.std.proofs.Common.{◌≡◌, refl, sym, ap, ◌∙◌, subst, ℕ, zero, suc, ◌+◌, ◌<◌, ◌≤◌, ℤ, pos, ◌<ℤ◌, ◌≤ℤ◌, Bool, true, false, List, length, filter, take, sum_by, Some, None, slice_get, slice_index_or, nat_lt, arith, inl, inr}
 use Rattle.std.proofs.lemmas.Bool.{lt-ltb, le-ltb, cases_lt}
 use Rattle.std.proofs.lemmas.Int.{ints}
 use Rattle.std.proofs.lemmas.List.{get_or_past}
@@ -8,7 +8,7 @@ use Rattle.std.proofs.Math.Seq.{take-length}
 use Rattle.std.specs.Int.RustNames.{unsigned_abs, int_lt}
 use Rattle.std.specs.List.{range_with_len}
 use Rattle.gta_job.specs.declared.totals.TheConstants.{WEIGHT_BOUND}
-use Rattle.gta_job.specs.Answer.{weight_of_rows, first_row, first_heavy, first_negative, AreNatural}
+use Rattle.gta_job.specs.Answer.{weight_of_rows, first_heavy, first_negative, AreNatural}
 
 first_passing : (test : ℕ → Bool) (first count i : ℕ) → i < count → test (first + i) ≡ true
     → ((k : ℕ) → k < i → test (first + k) ≡ false) → slice_get (filter test (range_with_len first count)) 0 ≡ Some (first + i)

@@ -3,4 +3,3 @@ pub mod Tables
 pub mod Greatest
 pub mod Heavy
 pub mod Within
-pub mod Forms

@@ -1,10 +1,10 @@
 -- Lines that end with LF, taken from the front, and the numbers of cells.
-use Rattle.std.proofs.Common.{◌≡◌, refl, sym, ap, ◌∙◌, ℕ, zero, suc, ◌+◌, ◌<◌, ◌≤◌, ℤ, Bool, true, false, cond, List, [], ◌∷◌, ◌++◌, length, Option, Some, None, option_map, nat_le, ◌==◌, arith, subst, append_assoc, length-append, append-nil}
+use Rattle.std.proofs.Common.{◌≡◌, refl, sym, ap, ◌∙◌, ℕ, zero, suc, ◌+◌, ◌<◌, ◌≤◌, ℤ, Bool, true, false, cond, List, [], ◌∷◌, ◌++◌, length, Option, Some, None, option_map, nat_le, ◌==◌, arith, append_assoc, length-append, append-nil}
 use Rattle.std.proofs.lemmas.List.{nil_from_length}
 use Rattle.gta_text.specs.Numbers.{cell_number}
 use Rattle.gta_text.specs.Lines.{is_inside, with_byte, split_line}
-use Rattle.gta_job.specs.declared.small_form.TheConstants.{ROW_LIMIT}
-use Rattle.gta_job.specs.SmallForm.{before_lines, ended_lines, with_number, numbers_of, rows_of}
+use Rattle.gta_spec.specs.declared.limits.TheConstants.{ROW_LIMIT}
+use Rattle.gta_job.specs.SmallTable.{before_lines, ended_lines, with_number, numbers_of, rows_of}
 use Rattle.gta_job.proofs.Cases.{by_test}
 
 -- the lines of what has no LF: there are none of nothing, and else it has no lines that end

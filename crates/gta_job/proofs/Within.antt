@@ -1,12 +1,11 @@
 -- Letters of natural rows under a bound: what they keep, and that the accepted sum is the greatest total that passes.
-use Rattle.std.proofs.Common.{◌≡◌, refl, sym, ap, ◌∙◌, subst, ℕ, zero, suc, ◌+◌, ◌-◌, ◌*◌, ◌<◌, ◌≤◌, min, max, ℤ, pos, ◌+ℤ◌, ◌≤ℤ◌, Bool, true, false, cond, List, [], ◌∷◌, length, map, take, drop, filter, sum_by, slice_index_or, nat_le, Option, Some, None, inl, inr, arith}
-use Rattle.std.proofs.lemmas.Int.{ints, clamps}
+use Rattle.std.proofs.Common.{◌≡◌, refl, sym, ap, ◌∙◌, subst, ℕ, zero, suc, ◌+◌, ◌*◌, ◌<◌, ◌≤◌, min, ℤ, pos, ◌+ℤ◌, ◌≤ℤ◌, Bool, true, false, cond, List, [], ◌∷◌, length, map, drop, filter, sum_by, slice_index_or, nat_le, Option, Some, None, inl, inr, arith}
+use Rattle.std.proofs.lemmas.Int.{ints}
 use Rattle.std.proofs.lemmas.List.Sums.{sum_by-cons}
 use Rattle.std.proofs.Math.Seq.{take-length}
 use Rattle.std.specs.Int.{int_max}
 use Rattle.std.specs.Int.RustNames.{unsigned_abs, int_le}
 use Rattle.monoid_kit.specs.Items.{IsIn, AllElements}
-use Rattle.monoid_kit.specs.Product.{product_by}
 use Rattle.monoid_kit.specs.CappedSum.{capped_sum}
 use Rattle.semiring_kit.specs.Semiring.{IsGood, weight_bound}
 use Rattle.semiring_kit.specs.Chosen.{chosen}
@@ -14,10 +13,10 @@ use Rattle.semiring_kit.specs.MaxPlus.{max_plus}
 use Rattle.semiring_kit.specs.Total.{total as sum_of}
 use Rattle.shape_gen.specs.declared.mark.Mark.{Mark}
 use Rattle.shape_gen.specs.declared.shape.Shape.TheVariants.{Sublists}
-use Rattle.shape_gen.specs.Candidates.{mark, sublists}
+use Rattle.shape_gen.specs.Candidates.{sublists}
 use Rattle.shape_gen.specs.Parts.{Whole}
 use Rattle.fuse_core.specs.declared.letter.Letter.{Letter}
-use Rattle.fuse_core.specs.Letters.{key_at, elem_at, place_of, key_of, weight_of, row_reach, rows_reach}
+use Rattle.fuse_core.specs.Letters.{key_at, elem_at, place_of, key_of, weight_of, rows_reach}
 use Rattle.fuse_core.specs.Plans.{accepts, accepted_sum}
 use Rattle.fuse_core.proofs.Picks.{Picks, lists-pick}
 use Rattle.gta_job.specs.Answer.{value, total, passes, greater, greatest, answer, weight_of_rows, AreNatural}

@@ -1,5 +1,6 @@
-pub mod SmallForm
+pub mod SmallTable
+pub mod Form
 pub mod Answer
-pub mod Texts
-pub mod Jobs
 pub mod Bounded
+pub mod Ends
+pub mod Jobs

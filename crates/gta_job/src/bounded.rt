@@ -6,9 +6,9 @@ ghost use Rattle.std.specs.List.{range_with_len};
 ghost use Rattle.gta_job.specs.Answer.{answer, weight_of_rows, AreNatural};
 ghost use Rattle.gta_job.specs.Bounded.{letter_of};
 
-use crate::small_form::{BOUND_LIMIT, ROW_LIMIT};
 use crate::totals::WEIGHT_BOUND;
 use fuse_core::{Letter, finish, plan_of};
+use gta_spec::{BOUND_LIMIT, ROW_LIMIT};
 use interval_kit::Fused;
 use key_map::SparseKit;
 use monoid_kit::CappedSum;

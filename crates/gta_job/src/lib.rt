@@ -1,13 +1,13 @@
 //! Whole jobs, from the bytes of an input to the bytes of an answer or the refusal.
-//! specs/Jobs.antt says what a job's text and its refusal are; what they rest on is in specs/SmallForm.antt
-//! (which bytes are a job), specs/Answer.antt (totals over candidates that pass) and specs/Texts.antt (printed bytes).
+//! specs/Jobs.antt says what a command's text and its refusal are. What they rest on is in specs/Ends.antt (faults told as
+//! refusals), specs/Form.antt and specs/SmallTable.antt (which jobs are built), and specs/Answer.antt (totals over
+//! candidates that pass).
 #![tactic(auto)]
 
 mod bounded;
+mod form;
 mod job;
-mod refusal;
-mod small_form;
+mod small_table;
 mod totals;
 
-pub use job::{JobEnd, answer_job};
-pub use refusal::{INPUT_LIMIT, Refusal, fault_line};
+pub use job::{INPUT_LIMIT, JobEnd, answer_job, show_job};

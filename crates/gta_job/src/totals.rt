@@ -4,7 +4,7 @@
 ghost use Rattle.std.specs.Prelude.{◌≡◌, ◌<◌, ◌≤◌, length, Some, IfNone, IfSome};
 ghost use Rattle.gta_job.specs.Answer.{answer, first_heavy, first_negative, weight_of_rows, AreNatural};
 
-use crate::small_form::ROW_LIMIT;
+use gta_spec::ROW_LIMIT;
 
 /// The most that the absolute values of all rows may add up to.
 pub const WEIGHT_BOUND: u64 = 4611686018427387903;

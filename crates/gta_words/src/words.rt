@@ -8,6 +8,8 @@ ghost use Rattle.gta_words.specs.Words.{command_of};
 pub enum Command {
     /// Answer the job that the source holds.
     Run,
+    /// Show the specification that the source holds.
+    Show,
 }
 
 /// The command that the words ask for, the program's own name left out; None where they are no command.
@@ -16,6 +18,7 @@ pub fn read_words(words: &[String]) -> Option<Command>
 {
     match words {
         [word] if word.as_str() == "run" => Some(Command::Run),
+        [word] if word.as_str() == "show" => Some(Command::Show),
         _ => None,
     }
 }

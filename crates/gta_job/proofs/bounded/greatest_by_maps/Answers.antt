@@ -1,4 +1,4 @@
-use Rattle.std.proofs.Common.{◌≡◌, ◌∙◌, ℕ, ◌+◌, ◌<◌, ◌≤◌, Bool, false, ap, sym, subst, refl, length, nat_le, slice_index_or, arith, IfOk}
+use Rattle.std.proofs.Common.{◌≡◌, ◌∙◌, ℕ, ◌+◌, ◌<◌, false, ap, sym, subst, refl, length, nat_le, slice_index_or, arith, IfOk}
 use Rattle.std.proofs.lemmas.List.FromFn.{length-map-range_with_len, get_or-map-range_with_len}
 use Rattle.gta_job.proofs.Within.{keys-within, elems-are_good, reaches-within, accepted-answer}
 use Rattle.gta_job.proofs.bounded.greatest_by_maps.Goals as goal

@@ -1,4 +1,4 @@
-use Rattle.std.proofs.Common.{rules, arith, ◌≡◌, ◌∙◌, ap, sym, subst, ◌<◌, pos, slice_index_or, w64, to_z, of_z, SFits}
+use Rattle.std.proofs.Common.{rules, arith, ◌≡◌, ◌∙◌, ap, sym, subst, ◌<◌, pos, slice_index_or, w64, SFits}
 use Rattle.std.proofs.lemmas.Int.{to_z-of_z}
 use Rattle.std.specs.Int.RustNames.{unsigned_abs}
 use Rattle.gta_job.specs.declared.totals.TheConstants.{WEIGHT_BOUND}

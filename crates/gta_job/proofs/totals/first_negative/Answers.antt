@@ -1,4 +1,4 @@
-use Rattle.std.proofs.Common.{rules, arith, ◌≡◌, sym, pos, ◌<ℤ◌, slice_index_or, w64, SFits}
+use Rattle.std.proofs.Common.{rules, arith, sym, pos, ◌<ℤ◌, slice_index_or, w64, SFits}
 use Rattle.std.proofs.lemmas.Int.{ints}
 use Rattle.gta_job.proofs.Heavy.{first_negative-found, first_negative-none}
 use Rattle.gta_job.proofs.totals.first_negative.Goals as goal

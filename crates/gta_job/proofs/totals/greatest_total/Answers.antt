@@ -1,6 +1,5 @@
-use Rattle.std.proofs.Common.{rules, arith, ◌≡◌, ◌∙◌, ap, sym, refl, ◌≤◌, ◌+◌, pos, ◌+ℤ◌, Some, length, slice_index_or, w64, to_z, of_z, SFits}
+use Rattle.std.proofs.Common.{rules, arith, ◌≡◌, ◌∙◌, ap, sym, refl, ◌≤◌, ◌+◌, pos, ◌+ℤ◌, Some, slice_index_or, w64, to_z, of_z, SFits}
 use Rattle.std.proofs.lemmas.Int.{ints, clamps}
-use Rattle.std.proofs.lemmas.List.Sums.{sum_by_more_le}
 use Rattle.std.specs.Int.{int_max}
 use Rattle.std.specs.Int.RustNames.{unsigned_abs}
 use Rattle.gta_job.specs.declared.totals.TheConstants.{WEIGHT_BOUND}

@@ -1,8 +1,8 @@
 use Rattle.std.proofs.Common.{◌≡◌, ◌≤◌, length}
-use Rattle.gta_job.specs.declared.small_form.TheConstants.{ROW_LIMIT}
-use Rattle.gta_job.specs.SmallForm.{ended_lines, rows_of}
+use Rattle.gta_spec.specs.declared.limits.TheConstants.{ROW_LIMIT}
+use Rattle.gta_job.specs.SmallTable.{ended_lines, rows_of}
 use Rattle.gta_job.proofs.Tables.{rows_after}
-use Rattle.gta_job.proofs.small_form.table_rows.Given as goal
+use Rattle.gta_job.proofs.small_table.table_rows.Given as goal
 
 abbrev pub invariant-loop-cell : goal.invariant-loop-cell
 invariant-loop-cell l = record {

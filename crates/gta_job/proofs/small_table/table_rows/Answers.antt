@@ -1,12 +1,12 @@
-use Rattle.std.proofs.Common.{rules, arith, ◌≡◌, ◌∷◌, ◌++◌, [], ◌∙◌, ap, sym, length, vec_len, refl, ℤ, w64, to_z, of_z, SFits, Some}
+use Rattle.std.proofs.Common.{rules, arith, ◌≡◌, ◌∙◌, ap, sym, w64, to_z, of_z, SFits, Some}
 use Rattle.std.proofs.lemmas.Grind.{common_steps}
 use Rattle.std.proofs.lemmas.Int.{to_z-of_z}
 use Rattle.gta_text.specs.Numbers.{cell_number}
 use Rattle.gta_job.proofs.Tables.{split_line-shorter, rows-full, rows-bad, rows-more, rows-unended}
-use Rattle.gta_job.proofs.small_form.table_rows.Goals as goal
+use Rattle.gta_job.proofs.small_table.table_rows.Goals as goal
 
-pub returns-then-len-eq-ROW_LIMIT-clause-rows : goal.returns-then-len-eq-ROW_LIMIT-clause-rows
-returns-then-len-eq-ROW_LIMIT-clause-rows c =
+pub returns-then-len-clause-rows : goal.returns-then-len-clause-rows
+returns-then-len-clause-rows c =
     rows-full c.args.table.now c.loop-cell.rest.now c.loop-cell.values.items c.loop-cell.invariant.so_far
     c.in-Some.cell.now c.in-Some.after.now c.in-Some.ensures (grind (arith, common_steps))
 

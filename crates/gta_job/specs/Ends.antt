@@ -1,0 +1,40 @@
+-- The refusals that a specification's faults are told by.
+use Rattle.std.specs.Prelude.{◌≡◌, Option, Some, None}
+use Rattle.gta_syntax.specs.declared.fault.SpecFault.{SpecFault}
+use Rattle.gta_syntax.specs.declared.fault.SpecFault.TheVariants as reading
+use Rattle.gta_types.specs.declared.fault.CheckFault.{CheckFault}
+use Rattle.gta_types.specs.declared.fault.CheckFault.TheVariants as checking
+use Rattle.report_text.specs.declared.refusal.Refusal.{Refusal}
+use Rattle.report_text.specs.declared.refusal.Refusal.TheVariants as refusals
+use Rattle.gta_job.specs.declared.job.JobEnd.{JobEnd}
+use Rattle.gta_job.specs.declared.job.JobEnd.TheVariants.{Refused, Memory}
+
+-- what a fault of reading ends a job with
+abbrev pub end_of_reading : SpecFault → JobEnd
+end_of_reading (reading.Byte line place) = Refused (refusals.Byte line place)
+end_of_reading (reading.Version line) = Refused (refusals.Version line)
+end_of_reading (reading.Grammar line) = Refused (refusals.Grammar line)
+end_of_reading (reading.Number line) = Refused (refusals.Number line)
+end_of_reading reading.NoRows = Refused refusals.NoRows
+end_of_reading reading.Memory = Memory
+
+-- what a fault of checking ends a job with
+abbrev pub end_of_checking : CheckFault → JobEnd
+end_of_checking (checking.Unknown line name) = Refused (refusals.Unknown line name)
+end_of_checking (checking.Twice line name) = Refused (refusals.Twice line name)
+end_of_checking (checking.Missing part) = Refused (refusals.Missing part)
+end_of_checking (checking.SecondPart line part) = Refused (refusals.SecondPart line part)
+end_of_checking (checking.LabelsAssign line assign) = Refused (refusals.LabelsAssign line assign)
+end_of_checking (checking.Limit line limit) = Refused (refusals.Limit line limit)
+end_of_checking checking.Unbuilt = Refused refusals.Unbuilt
+end_of_checking checking.Memory = Memory
+
+-- the refusal that a job ends with, where it ends with one
+abbrev pub refusal_in : JobEnd → Option Refusal
+refusal_in (Refused refusal) = Some refusal
+refusal_in Memory = None
+
+-- an end without an answer carries the refusal; want of memory is free
+abbrev pub IsEndOf : Option Refusal → JobEnd → Type 0
+IsEndOf refusal (Refused r) = refusal ≡ Some r
+IsEndOf refusal Memory = Unit {0}
