@@ -1,3 +1,4 @@
 pub mod Names
 pub mod Resolved
 pub mod Faults
+pub mod Index

@@ -3,7 +3,9 @@
 #![tactic(auto)]
 
 mod checking;
+mod declaring;
 mod fault;
+mod names;
 
 pub use checking::check;
 pub use fault::CheckFault;
