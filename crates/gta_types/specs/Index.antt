@@ -38,3 +38,6 @@ IsIndex names all = (scope : ℕ) (x : List ℕ) → known_at names scope x ≡ 
 -- a name, and its line
 abbrev pub place : Place → ℕ × List ℕ
 place p = (p.line, p.name.now)
+
+abbrev pub declared_place : Declaration → ℕ × List ℕ
+declared_place d = (d.line, d.name)

@@ -5,6 +5,7 @@
 mod checking;
 mod declaring;
 mod fault;
+mod index;
 mod names;
 
 pub use checking::check;
