@@ -1,3 +1,4 @@
 pub mod Keys
 pub mod Twice
 pub mod Fronts
+pub mod Unknown

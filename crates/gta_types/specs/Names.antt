@@ -13,6 +13,14 @@ use Rattle.spec_rules.specs.SpecRules.{first_answer}
 use Rattle.gta_types.specs.declared.declaring.NameKind.{NameKind}
 use Rattle.gta_types.specs.declared.declaring.NameKind.TheVariants.{AColumn, ALabel, AMeasure, ATable, AnElement}
 
+abbrev pub same_kind : NameKind → NameKind → Bool
+same_kind AColumn AColumn = true
+same_kind ALabel ALabel = true
+same_kind AMeasure AMeasure = true
+same_kind ATable ATable = true
+same_kind AnElement AnElement = true
+same_kind _ _ = false
+
 -- a name, what it is declared as, and the line that does so
 pub record Declaration : Type 0 where
   pub line : ℕ
@@ -137,21 +145,9 @@ listed (Some elements) = elements
 abbrev pub elements_of : List PartTree → List ℕ → List (List ℕ)
 elements_of parts x = listed (first_answer (λ before part. table_elements part.kind x) [] parts)
 
-abbrev pub is_column : Option NameKind → Bool
-is_column (Some AColumn) = true
-is_column _ = false
-
-abbrev pub is_label : Option NameKind → Bool
-is_label (Some ALabel) = true
-is_label _ = false
-
-abbrev pub is_measure : Option NameKind → Bool
-is_measure (Some AMeasure) = true
-is_measure _ = false
-
-abbrev pub is_table : Option NameKind → Bool
-is_table (Some ATable) = true
-is_table _ = false
+abbrev pub is_of : NameKind → Option NameKind → Bool
+is_of wanted None = false
+is_of wanted (Some kind) = same_kind wanted kind
 
 -- what a name was first declared as, elements left out
 abbrev pub declared_as : List PartTree → List ℕ → Option NameKind
@@ -159,12 +155,12 @@ declared_as parts x = kind_of (declaration_of (declarations parts) x)
 
 -- whether a name is declared for a use
 abbrev pub is_known : List PartTree → Wanted → List ℕ → Bool
-is_known parts Column x = is_column (declared_as parts x)
-is_known parts Label x = is_label (declared_as parts x)
-is_known parts Weight x = is_column (declared_as parts x) || is_measure (declared_as parts x)
-is_known parts TableName x = is_table (declared_as parts x)
+is_known parts Column x = is_of AColumn (declared_as parts x)
+is_known parts Label x = is_of ALabel (declared_as parts x)
+is_known parts Weight x = is_of AColumn (declared_as parts x) || is_of AMeasure (declared_as parts x)
+is_known parts TableName x = is_of ATable (declared_as parts x)
 is_known parts (ElementOf table) x =
-    if is_table (declared_as parts table) then is_one_of (elements_of parts table) x else true
+    if is_of ATable (declared_as parts table) then is_one_of (elements_of parts table) x else true
 is_known parts (OneOf names) x = is_one_of names x
 
 -- the first use of a name that isn't declared for it

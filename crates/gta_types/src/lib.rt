@@ -7,6 +7,7 @@ mod declaring;
 mod fault;
 mod index;
 mod names;
+mod uses;
 
 pub use checking::check;
 pub use fault::CheckFault;
