@@ -42,7 +42,7 @@ first_in-push all d s x =
     ∙ option_or_mapped found_of (find (is_named s x) all) (find (is_named s x) (d ∷ []))
     ∙ ap (option_or (option_map found_of (find (is_named s x) all))) (mapped_cond found_of (is_named s x d) d)
 
-is_some-mapped_find : {A B : Type 0} (f : A → B) (p : A → Bool) (xs : List A)
+pub is_some-mapped_find : {A B : Type 0} (f : A → B) (p : A → Bool) (xs : List A)
     → is_some (option_map f (find p xs)) ≡ list_any p xs
 is_some-mapped_find f p [] = refl
 is_some-mapped_find f p (x ∷ xs) =
@@ -74,7 +74,7 @@ same_scope true false m n = ne_eqb 0 (m + 1) (λ h. omega arith)
 same_scope false true m n = ne_eqb (n + 1) 0 (λ h. omega arith)
 same_scope false false m n = refl
 
-bytes_eq_swap : (x y : List ℕ) → bytes_eq x y ≡ bytes_eq y x
+pub bytes_eq_swap : (x y : List ℕ) → bytes_eq x y ≡ bytes_eq y x
 bytes_eq_swap [] [] = refl
 bytes_eq_swap [] (b ∷ bs) = refl
 bytes_eq_swap (a ∷ as') [] = refl

@@ -2,3 +2,5 @@ pub mod Names
 pub mod Resolved
 pub mod Faults
 pub mod Index
+pub mod Lists
+pub mod Ready

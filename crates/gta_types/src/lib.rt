@@ -4,9 +4,14 @@
 
 mod checking;
 mod declaring;
+mod drafting;
 mod fault;
+mod gathering;
 mod index;
+mod lists;
 mod names;
+mod naming;
+mod resolving;
 mod uses;
 
 pub use checking::check;
