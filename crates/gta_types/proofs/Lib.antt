@@ -6,3 +6,7 @@ pub mod Looked
 pub mod FirstFault
 pub mod Numbers
 pub mod Rules
+pub mod InRange
+pub mod Within
+pub mod Accepted
+pub mod Whole

@@ -82,7 +82,7 @@ none_later l low x (part ∷ parts) lt fits =
       none_later l (part.line + 1) x parts (omega (arith, fits.0)) fits.2) refl
 
 -- a declaration that is found on a line has its number
-line_of_map : {A : Type 0} (p : Declaration → Bool) (line : ℕ) (kind : NameKind) (f : A → List ℕ) (xs : List A)
+pub line_of_map : {A : Type 0} (p : Declaration → Bool) (line : ℕ) (kind : NameKind) (f : A → List ℕ) (xs : List A)
     (d : Declaration) → find p (map (λ x. declare line kind (f x)) xs) ≡ Some d → (d.line ≡ line) × (d.kind ≡ kind)
 line_of_map p line kind f [] d e = absurd (none-some d e)
 line_of_map p line kind f (x ∷ xs) d e =
@@ -91,10 +91,10 @@ line_of_map p line kind f (x ∷ xs) d e =
       true ↦ (λ h. let s = same_Some _ _ h in (ap (λ (x : Declaration). x.line) (sym s), ap (λ (x : Declaration). x.kind) (sym s)))
       | false ↦ (λ h. line_of_map p line kind f xs d h) ] e
 
-abbrev called : List ℕ → Declaration → Bool
+abbrev pub called : List ℕ → Declaration → Bool
 called t d = not (is_element d.kind) && bytes_eq d.name t
 
-kind_differs : (k d : NameKind) → d ≡ k → same_kind ATable k ≡ false → same_kind ATable d ≡ true → ⊥
+pub kind_differs : (k d : NameKind) → d ≡ k → same_kind ATable k ≡ false → same_kind ATable d ≡ true → ⊥
 kind_differs k d e differs same = false≢true (sym differs ∙ ap (same_kind ATable) (sym e) ∙ same)
 
 no_element : (line : ℕ) (t : List ℕ) (xs : List (List ℕ)) → find (called t) (map (declare line AnElement) xs) ≡ None
@@ -168,7 +168,7 @@ line_here p line (Generate shape) d e = absurd (none-some d e)
 line_here p line (Test test) d e = absurd (none-some d e)
 line_here p line (Aggregate goal) d e = absurd (none-some d e)
 
-option_cases : {A : Type 0} (o : Option A) → (o ≡ None) ⊎ ((x : A) × (o ≡ Some x))
+pub option_cases : {A : Type 0} (o : Option A) → (o ≡ None) ⊎ ((x : A) × (o ≡ Some x))
 option_cases None = inl refl
 option_cases (Some x) = inr (x, refl)
 
