@@ -1,27 +1,24 @@
 -- A specification without a fault is within the limits once its names are resolved.
-use Rattle.std.proofs.Common.{◌≡◌, ◌↔◌, ℕ, zero, suc, ◌+◌, ◌<◌, ◌≤◌, Bool, true, false, ◌&&◌, ◌||◌, not, nat_lt, nat_le, leb, List, [], ◌∷◌, ◌++◌, map, filter, length, get_or, Option, Some, None, is_some, option_map, All, ℤ, pos, nat_abs, cond, refl, sym, ap, ◌∙◌, inl, inr, ◌⊎◌, subst, arith}
+use Rattle.std.proofs.Common.{◌≡◌, ℕ, ◌+◌, ◌<◌, ◌≤◌, Bool, true, false, ◌&&◌, ◌||◌, nat_lt, leb, List, [], ◌∷◌, ◌++◌, map, filter, length, get_or, Some, All, cond, refl, sym, ap, ◌∙◌, inl, inr, arith}
 use Rattle.std.specs.List.{find, list_any, flat_map, range_with_len}
 use Rattle.std.proofs.lemmas.List.{length-map, length-append}
 use Rattle.std.proofs.lemmas.List.FromFn.{length-range_with_len, get_or-range_with_len}
 use Rattle.std.proofs.lemmas.List.Elements.{All-nil, All-cons, All-append, All-map}
-use Rattle.std.proofs.lemmas.List.Folds.{find-append, list_any-append}
-use Rattle.std.proofs.lemmas.Bool.{false≢true, cases_Bool, ltb-false, leb-false, not-false}
+use Rattle.std.proofs.lemmas.List.Folds.{find-append}
+use Rattle.std.proofs.lemmas.Bool.{false≢true, ltb-false, not-false}
 use Rattle.std.proofs.lemmas.Option.{none-some, same_Some}
-use Rattle.gta_spec.specs.declared.limits.TheConstants.{CASE_LIMIT, COLUMN_LIMIT, LABEL_LIMIT, MEASURE_LIMIT, TEST_LIMIT, KEEP_LIMIT, FACTOR_LIMIT}
+use Rattle.gta_spec.specs.declared.limits.TheConstants.{CASE_LIMIT, MEASURE_LIMIT, TEST_LIMIT, KEEP_LIMIT}
 use Rattle.gta_spec.specs.declared.parts.GoalPart.{GoalPart}
 use Rattle.gta_spec.specs.declared.parts.GoalPart.TheVariants as goals
 use Rattle.gta_spec.specs.declared.parts.ColumnItem.{ColumnItem}
-use Rattle.gta_spec.specs.Parts.{TestTree, Sum, Length, Fold, KindTree, Columns, Labels, Measure, Table, Times, Generate, Test, Aggregate, PartTree, SpecTree}
-use Rattle.gta_spec.specs.WellFormed.{EachFits, FitsKind, FitParts, IsWellFormed}
-use Rattle.gta_checked.specs.declared.resolved.Goal.{Goal}
-use Rattle.gta_checked.specs.Plain.{PlainCase, PlainTest, PlainChecked}
-use Rattle.gta_checked.specs.Within.{IsTermWithin, IsAtomWithin, IsCaseWithin, IsMeasureWithin, IsTestWithin, IsGoalWithin, IsWithinLimits}
+use Rattle.gta_spec.specs.Parts.{Sum, Length, Fold, KindTree, Columns, Labels, Measure, Table, Times, Generate, Test, Aggregate, PartTree}
+use Rattle.gta_spec.specs.WellFormed.{EachFits, FitsKind, FitParts}
+use Rattle.gta_checked.specs.Within.{IsTermWithin, IsAtomWithin, IsCaseWithin, IsMeasureWithin, IsTestWithin, IsGoalWithin}
 use Rattle.spec_rules.specs.declared.fault.Limit.TheVariants as limits
-use Rattle.spec_rules.specs.SpecRules.{is_past, is_kept_past, is_table, is_measure, is_test, earlier}
-use Rattle.gta_types.specs.declared.declaring.NameKind.{NameKind}
-use Rattle.gta_types.specs.declared.declaring.NameKind.TheVariants.{AColumn, ALabel, AMeasure, ATable, AnElement}
-use Rattle.gta_types.specs.Names.{Declaration, declare, declarations_of, declarations, declaration_of, declared_as, is_of, same_kind, Use, TableName, Weight, use_as, is_known, uses_of, uses}
-use Rattle.gta_types.specs.Resolved.{number_of_weight, column_items, label_names, measure_names, environment, resolved_case, resolved_goal, column_measure, declared_measures, tests_of, goals_of, measures_of}
+use Rattle.spec_rules.specs.SpecRules.{is_table, is_measure, is_test, earlier}
+use Rattle.gta_types.specs.declared.declaring.NameKind.TheVariants.{AColumn, ALabel, AMeasure, ATable}
+use Rattle.gta_types.specs.Names.{Declaration, declarations_of, declarations, declaration_of, declared_as, is_of, same_kind, Weight, use_as, uses_of, uses}
+use Rattle.gta_types.specs.Resolved.{number_of_weight, column_items, measure_names, environment, resolved_case, resolved_goal, column_measure, declared_measures, tests_of, measures_of}
 use Rattle.gta_types.specs.Ready.{is_fold}
 use Rattle.gta_types.proofs.Looked.{called, option_cases, line_of_map, kind_differs}
 use Rattle.gta_types.proofs.Rules.{Kept, AllKept, few_lines, length_lines}
@@ -52,16 +49,18 @@ no_table p (part ∷ parts) d none e same =
     let ds = declarations_of part.line part.kind in
     let joined = sym (find-append p ds (declarations parts)) ∙ e in
     elim (option_cases (find p ds)) [
-      inl here ↦ no_table p parts d n.1 (rw here at joined) same
+      | inl here ↦ no_table p parts d n.1 (rw here at joined) same
       | inr here ↦ (let found = same_Some _ _ (rw here.1 at joined) in
-          no_table_here p part.line part.kind d n.0 (here.1 ∙ ap Some found) same) ]
+          no_table_here p part.line part.kind d n.0 (here.1 ∙ ap Some found) same)
+    ]
 
 module _ (all : List PartTree) (none : list_any (λ (part : PartTree). is_table part.kind) all ≡ false) where
   no_table_known : (x : List ℕ) → is_of ATable (declared_as all x) ≡ true → ⊥
   no_table_known x known =
       elim (option_cases (declaration_of (declarations all) x)) [
-        inl here ↦ (let h : false ≡ true = rw here at known in false≢true h)
-        | inr here ↦ no_table (called x) all here.0 none here.1 (rw here.1 at known) ]
+        | inl here ↦ (let h : false ≡ true = rw here at known in false≢true h)
+        | inr here ↦ no_table (called x) all here.0 none here.1 (rw here.1 at known)
+      ]
 
   not_fold : (line : ℕ) (kind : KindTree) → EachFits (Known all) (uses_of line kind) → is_fold kind ≡ false
   not_fold line (Columns items) known = refl
@@ -88,11 +87,17 @@ pub line_facts : (all : List PartTree) → list_any (λ (part : PartTree). is_ta
     → EachFits (Known all) (uses parts) → EachFits (λ (part : PartTree). LineFacts all part.line part.kind) parts
 line_facts all none low before [] fits kept known = tt
 line_facts all none low before (part ∷ parts) fits kept known =
-    let here = each_front (Known all) (uses_of part.line part.kind) (uses parts) known in
-    (record { count = earlier before part.kind; fits = fits.1; kept = kept.0; known = here;
-        no_fold = not_fold all none part.line part.kind here },
+    let here = each_front (Known all) (uses_of part.line part.kind) (uses parts) known in (
+      record {
+        count = earlier before part.kind;
+        fits = fits.1;
+        kept = kept.0;
+        known = here;
+        no_fold = not_fold all none part.line part.kind here;
+      },
       line_facts all none (part.line + 1) (before ++ part ∷ []) parts fits.2 kept.1
-      (each_back (Known all) (uses_of part.line part.kind) (uses parts) known))
+          (each_back (Known all) (uses_of part.line part.kind) (uses parts) known),
+    )
 
 measure_pick : (before : List PartTree) (kind : KindTree) → Kept (earlier before kind) kind
     → (is_measure kind && leb MEASURE_LIMIT (length (filter (λ line. is_measure line.kind) before))) ≡ false
@@ -166,8 +171,8 @@ measures_length all =
     let declared = flat_map (λ (part : PartTree). declared_measures (environment all) part.kind) all in
     let a : length (measures_of all) ≡ length columns + length declared = length-append columns declared in
     let b : length columns ≡ length (environment all).columns =
-      length-map (range_with_len 0 (length (environment all).columns)) column_measure
-      ∙ length-range_with_len 0 (length (environment all).columns) in
+    length-map (range_with_len 0 (length (environment all).columns)) column_measure
+    ∙ length-range_with_len 0 (length (environment all).columns) in
     let c = length_lines is_measure MEASURE_LIMIT measure_pick (declared_measures (environment all)) (one_measure all) all in
     let d = length_lines is_measure MEASURE_LIMIT measure_pick measure_names one_measure_name all in
     omega (arith, a, b, c, d)
@@ -184,11 +189,12 @@ measures_of_line : (all : List PartTree) (line : ℕ) (kind : KindTree) → Line
 measures_of_line all line (Columns items) facts = All-nil (IsMeasureWithin (column_count all) (label_count all))
 measures_of_line all line (Labels xs) facts = All-nil (IsMeasureWithin (column_count all) (label_count all))
 measures_of_line all line (Measure part) facts =
-    All-cons (IsMeasureWithin (column_count all) (label_count all)) (map (resolved_case (environment all)) part.cases) []
-    ((let l = length-map part.cases (resolved_case (environment all)) in
-      let few = ltb-false CASE_LIMIT (length part.cases) (facts.kept limits.Cases) in omega arith),
+    All-cons (IsMeasureWithin (column_count all) (label_count all)) (map (resolved_case (environment all)) part.cases) [] (
+      (let l = length-map part.cases (resolved_case (environment all)) in
+          let few = ltb-false CASE_LIMIT (length part.cases) (facts.kept limits.Cases) in omega arith),
       cases_within all line part.cases facts.fits.1.1 (facts.kept limits.Terms) (facts.kept limits.Atoms)
-      (facts.kept limits.Factor) facts.known)
+          (facts.kept limits.Factor) facts.known,
+    )
     (All-nil (IsMeasureWithin (column_count all) (label_count all)))
 measures_of_line all line (Table part) facts = All-nil (IsMeasureWithin (column_count all) (label_count all))
 measures_of_line all line (Times part) facts = All-nil (IsMeasureWithin (column_count all) (label_count all))
@@ -209,15 +215,16 @@ tests_of_line all line (Table part) facts = All-nil (IsTestWithin (column_count 
 tests_of_line all line (Times part) facts = All-nil (IsTestWithin (column_count all) (label_count all) (length (measures_of all)))
 tests_of_line all line (Generate shape) facts = All-nil (IsTestWithin (column_count all) (label_count all) (length (measures_of all)))
 tests_of_line all line (Test (Sum x check)) facts =
-    All-cons (IsTestWithin (column_count all) (label_count all) (length (measures_of all))) _ []
-    (weight_within all line x facts.known.0,
+    All-cons (IsTestWithin (column_count all) (label_count all) (length (measures_of all))) _ [] (
+      weight_within all line x facts.known.0,
       check_within check (one_check _ (facts.kept limits.Bound)) (one_check _ (facts.kept limits.Modulus))
-      (one_check _ (facts.kept limits.Residue)))
+          (one_check _ (facts.kept limits.Residue)),
+    )
     (All-nil (IsTestWithin (column_count all) (label_count all) (length (measures_of all))))
 tests_of_line all line (Test (Length check)) facts =
     All-cons (IsTestWithin (column_count all) (label_count all) (length (measures_of all))) _ []
     (check_within check (one_check _ (facts.kept limits.Bound)) (one_check _ (facts.kept limits.Modulus))
-      (one_check _ (facts.kept limits.Residue)))
+    (one_check _ (facts.kept limits.Residue)))
     (All-nil (IsTestWithin (column_count all) (label_count all) (length (measures_of all))))
 tests_of_line all line (Test (Fold table picks accept)) facts = absurd (false≢true (sym facts.no_fold))
 tests_of_line all line (Aggregate goal) facts = All-nil (IsTestWithin (column_count all) (label_count all) (length (measures_of all)))
@@ -240,15 +247,16 @@ all_flat P Q g each (part ∷ parts) fits =
     All-append P (g part) (flat_map g parts) (each part fits.0) (all_flat P Q g each parts fits.1)
 
 column_measure_within : (columns labels column : ℕ) → column < columns → IsMeasureWithin columns labels (column_measure column)
-column_measure_within columns labels column below =
-    (omega arith,
-      All-cons (IsCaseWithin columns labels) _ []
+column_measure_within columns labels column below = (
+  omega arith,
+  All-cons (IsCaseWithin columns labels) _ []
       (record {
         few_terms = omega arith;
         terms = All-cons (IsTermWithin columns) _ [] (below, omega arith) (All-nil (IsTermWithin columns));
         condition = (omega arith, All-nil (IsAtomWithin columns labels));
       })
-      (All-nil (IsCaseWithin columns labels)))
+      (All-nil (IsCaseWithin columns labels)),
+)
 
 pub all_measures : (all : List PartTree) → EachFits (λ (part : PartTree). LineFacts all part.line part.kind) all
     → All (IsMeasureWithin (column_count all) (label_count all)) (measures_of all)
@@ -258,17 +266,17 @@ all_measures all facts =
     let same : n ≡ column_count all = length-map (flat_map (λ (part : PartTree). column_items part.kind) all) (λ item. item.name) in
     All-append P (map column_measure (range_with_len 0 n)) (flat_map (λ (part : PartTree). declared_measures (environment all) part.kind) all)
     (All-map P column_measure (range_with_len 0 n) (λ k d lt.
-      let l = length-range_with_len 0 n in
-      let below : k < n = omega (arith, lt, l) in
-      let at = get_or-range_with_len 0 n k d below in
-      column_measure_within (column_count all) (label_count all) (get_or (range_with_len 0 n) k d) (omega (arith, at, same, below))))
+    let l = length-range_with_len 0 n in
+    let below : k < n = omega (arith, lt, l) in
+    let at = get_or-range_with_len 0 n k d below in
+    column_measure_within (column_count all) (label_count all) (get_or (range_with_len 0 n) k d) (omega (arith, at, same, below))))
     (all_flat P (λ (part : PartTree). LineFacts all part.line part.kind)
-      (λ (part : PartTree). declared_measures (environment all) part.kind)
-      (λ part facts. measures_of_line all part.line part.kind facts) all facts)
+    (λ (part : PartTree). declared_measures (environment all) part.kind)
+    (λ part facts. measures_of_line all part.line part.kind facts) all facts)
 
 pub all_tests : (all : List PartTree) → EachFits (λ (part : PartTree). LineFacts all part.line part.kind) all
     → All (IsTestWithin (column_count all) (label_count all) (length (measures_of all)))
-      (flat_map (λ (part : PartTree). tests_of (environment all) part.kind) all)
+    (flat_map (λ (part : PartTree). tests_of (environment all) part.kind) all)
 all_tests all facts =
     all_flat (IsTestWithin (column_count all) (label_count all) (length (measures_of all)))
     (λ (part : PartTree). LineFacts all part.line part.kind) (λ (part : PartTree). tests_of (environment all) part.kind)

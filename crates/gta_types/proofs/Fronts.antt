@@ -1,6 +1,6 @@
 -- The fronts of lists, one element longer. Of any lists.
-use Rattle.std.proofs.Common.{◌≡◌, ℕ, ◌+◌, ◌<◌, List, [], ◌∷◌, ◌++◌, map, take, drop, length, get_or, add-one, drop-cons, refl, sym, ap, ◌∙◌, arith}
-use Rattle.std.proofs.lemmas.Grind.{take_at_read, common_steps}
+use Rattle.std.proofs.Common.{◌≡◌, ℕ, ◌+◌, ◌<◌, List, [], ◌∷◌, ◌++◌, map, take, drop, length, get_or, add-one, drop-cons, refl, sym, ap, ◌∙◌}
+use Rattle.std.proofs.lemmas.Grind.{take_at_read}
 use Rattle.std.proofs.lemmas.List.{map-append, take-append-drop}
 
 pub take_next : {A : Type 0} (xs : List A) (i : ℕ) (d : A) → i < length xs → d ≡ get_or xs i d
@@ -16,4 +16,4 @@ pub split_at : {A : Type 0} (xs : List A) (i : ℕ) (d : A) → i < length xs �
     → xs ≡ take i xs ++ d ∷ drop (i + 1) xs
 split_at xs i d lt is = sym (take-append-drop i xs)
     ∙ ap (λ (ys : List _). take i xs ++ ys)
-      (drop-cons xs i d lt ∙ rw (sym is, sym (add-one i)) refl)
+    (drop-cons xs i d lt ∙ rw (sym is, sym (add-one i)) refl)

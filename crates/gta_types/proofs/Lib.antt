@@ -10,3 +10,5 @@ pub mod InRange
 pub mod Within
 pub mod Accepted
 pub mod Whole
+pub mod Joined
+pub mod Ends

@@ -1,7 +1,7 @@
 -- What an index of a specification's declarations has at a name is what the specification declares it as.
 use Rattle.std.proofs.Common.{◌≡◌, ℕ, ◌+◌, ◌<◌, ◌≤◌, ◌≢◌, Bool, true, false, ◌&&◌, ◌||◌, not, nat_eq, List, [], ◌∷◌, ◌++◌, map, Option, Some, None, is_some, option_map, cond, refl, sym, ap, ◌∙◌, inl, inr, ◌⊎◌, arith}
 use Rattle.std.specs.Option.{option_or}
-use Rattle.std.specs.List.{find, list_any, flat_map}
+use Rattle.std.specs.List.{find, list_any}
 use Rattle.std.specs.Str.{bytes_eq}
 use Rattle.std.proofs.lemmas.List.Folds.{find-append, list_any-append}
 use Rattle.std.proofs.lemmas.Bool.{eq-eqb, ne_eqb, false≢true, cases_Bool}
@@ -16,7 +16,7 @@ use Rattle.gta_types.specs.declared.names.Found.{Found}
 use Rattle.gta_types.specs.declared.names.Names.{Names}
 use Rattle.gta_types.specs.Names.{Declaration, declare, declarations_of, declarations, is_element, declaration_of, kind_of, Use, Wanted, is_one_of, table_elements, listed, elements_of, is_of, same_kind, declared_as, is_known, unknown_use, uses}
 use Rattle.gta_types.specs.Names as names
-use Rattle.gta_types.specs.Index.{scope_of, is_named, found_of, first_in, known_at, kind_at, has_element, known_by, used_place, unknown_in, IsIndex}
+use Rattle.gta_types.specs.Index.{is_named, found_of, first_in, known_at, kind_at, has_element, known_by, used_place, unknown_in, IsIndex}
 use Rattle.gta_types.proofs.Twice.{is_some-mapped_find, bytes_eq_swap}
 
 pub find_same : {A : Type 0} (p q : A → Bool) → ((x : A) → p x ≡ q x) → (xs : List A) → find p xs ≡ find q xs
@@ -78,8 +78,10 @@ none_later : (l low : ℕ) (x : List ℕ) (parts : List PartTree) → l < low �
 none_later l low x [] lt fits = refl
 none_later l low x (part ∷ parts) lt fits =
     list_any-append (is_named (l + 1) x) (declarations_of part.line part.kind) (declarations parts)
-    ∙ rw (none_of_line l part.line x part.kind (λ h. omega (arith, fits.0)),
-      none_later l (part.line + 1) x parts (omega (arith, fits.0)) fits.2) refl
+    ∙ rw (
+      none_of_line l part.line x part.kind (λ h. omega (arith, fits.0)),
+      none_later l (part.line + 1) x parts (omega (arith, fits.0)) fits.2,
+    ) refl
 
 -- a declaration that is found on a line has its number
 pub line_of_map : {A : Type 0} (p : Declaration → Bool) (line : ℕ) (kind : NameKind) (f : A → List ℕ) (xs : List A)
@@ -87,9 +89,10 @@ pub line_of_map : {A : Type 0} (p : Declaration → Bool) (line : ℕ) (kind : N
 line_of_map p line kind f [] d e = absurd (none-some d e)
 line_of_map p line kind f (x ∷ xs) d e =
     elim (p (declare line kind (f x))) as (λ b. cond b (Some (declare line kind (f x))) (find p (map (λ x. declare line kind (f x)) xs)) ≡ Some d
-        → (d.line ≡ line) × (d.kind ≡ kind)) [
-      true ↦ (λ h. let s = same_Some _ _ h in (ap (λ (x : Declaration). x.line) (sym s), ap (λ (x : Declaration). x.kind) (sym s)))
-      | false ↦ (λ h. line_of_map p line kind f xs d h) ] e
+    → (d.line ≡ line) × (d.kind ≡ kind)) [
+      | true ↦ (λ h. let s = same_Some _ _ h in (ap (λ (x : Declaration). x.line) (sym s), ap (λ (x : Declaration). x.kind) (sym s)))
+      | false ↦ (λ h. line_of_map p line kind f xs d h)
+    ] e
 
 abbrev pub called : List ℕ → Declaration → Bool
 called t d = not (is_element d.kind) && bytes_eq d.name t
@@ -118,16 +121,16 @@ table_here : (line : ℕ) (kind : KindTree) (t : List ℕ) (d : Declaration)
     → find (called t) (declarations_of line kind) ≡ Some d → same_kind ATable d.kind ≡ true → IsTableOf line kind t d
 table_here line (Columns items) t d e same =
     absurd (kind_differs AColumn d.kind
-      (line_of_map (called t) line AColumn (λ (item : ColumnItem). item.name) items d e).1 refl same)
+    (line_of_map (called t) line AColumn (λ (item : ColumnItem). item.name) items d e).1 refl same)
 table_here line (Labels xs) t d e same =
     absurd (kind_differs ALabel d.kind (line_of_map (called t) line ALabel (λ x. x) xs d e).1 refl same)
 table_here line (Measure part) t d e same =
     absurd (kind_differs AMeasure d.kind
-      (line_of_map (called t) line AMeasure (λ (x : List ℕ). x) (part.name ∷ []) d e).1 refl same)
+    (line_of_map (called t) line AMeasure (λ (x : List ℕ). x) (part.name ∷ []) d e).1 refl same)
 table_here line (Table part) t d e same =
     let hit = cond_some (bytes_eq part.name t) (declare line ATable part.name) d
-      (ap (λ (o : Option Declaration). cond (bytes_eq part.name t) (Some (declare line ATable part.name)) o)
-        (sym (no_element line t part.elements)) ∙ e) in
+    (ap (λ (o : Option Declaration). cond (bytes_eq part.name t) (Some (declare line ATable part.name)) o)
+    (sym (no_element line t part.elements)) ∙ e) in
     record {
       on_line = ap (λ (x : Declaration). x.line) (sym hit.1);
       elements = λ x. rw (not_element line line x part.name ATable refl, hit.0) (elements_named line x part.elements);
@@ -145,9 +148,10 @@ no_table_here line (Labels xs) t e = refl
 no_table_here line (Measure part) t e = refl
 no_table_here line (Table part) t e =
     elim (bytes_eq part.name t) as (λ b. cond b (Some (declare line ATable part.name)) (find (called t) (map (declare line AnElement) part.elements)) ≡ None
-        → cond b (Some part.elements) None ≡ None) [
-      true ↦ (λ h. absurd (none-some _ (sym h)))
-      | false ↦ (λ h. refl) ] e
+    → cond b (Some part.elements) None ≡ None) [
+      | true ↦ (λ h. absurd (none-some _ (sym h)))
+      | false ↦ (λ h. refl)
+    ] e
 no_table_here line (Times part) t e = refl
 no_table_here line (Generate shape) t e = refl
 no_table_here line (Test test) t e = refl
@@ -160,9 +164,10 @@ line_here p line (Labels xs) d e = (line_of_map p line ALabel (λ x. x) xs d e).
 line_here p line (Measure part) d e = (line_of_map p line AMeasure (λ (x : List ℕ). x) (part.name ∷ []) d e).0
 line_here p line (Table part) d e =
     elim (p (declare line ATable part.name)) as (λ b. cond b (Some (declare line ATable part.name)) (find p (map (declare line AnElement) part.elements)) ≡ Some d
-        → d.line ≡ line) [
-      true ↦ (λ h. ap (λ (x : Declaration). x.line) (sym (same_Some _ _ h)))
-      | false ↦ (λ h. (line_of_map p line AnElement (λ (x : List ℕ). x) part.elements d h).0) ] e
+    → d.line ≡ line) [
+      | true ↦ (λ h. ap (λ (x : Declaration). x.line) (sym (same_Some _ _ h)))
+      | false ↦ (λ h. (line_of_map p line AnElement (λ (x : List ℕ). x) part.elements d h).0)
+    ] e
 line_here p line (Times part) d e = absurd (none-some d e)
 line_here p line (Generate shape) d e = absurd (none-some d e)
 line_here p line (Test test) d e = absurd (none-some d e)
@@ -178,14 +183,14 @@ line_after p low [] d fits e = absurd (none-some d e)
 line_after p low (part ∷ parts) d fits e =
     let here = find p (declarations_of part.line part.kind) in
     let joined : option_or here (find p (declarations parts)) ≡ Some d =
-      sym (find-append p (declarations_of part.line part.kind) (declarations parts)) ∙ e in
+    sym (find-append p (declarations_of part.line part.kind) (declarations parts)) ∙ e in
     elim (option_cases here) [
-      inl none ↦ (let later : find p (declarations parts) ≡ Some d = rw none at joined in
+      | inl none ↦ (let later : find p (declarations parts) ≡ Some d = rw none at joined in
           let after : part.line + 1 ≤ d.line = line_after p (part.line + 1) parts d fits.2 later in omega (arith, fits.0))
       | inr some ↦ (let found : Some some.0 ≡ Some d = rw some.1 at joined in
           let line : d.line ≡ part.line = ap (λ (x : Declaration). x.line) (sym (same_Some _ _ found))
-            ∙ line_here p part.line part.kind some.0 some.1 in omega (arith, fits.0)) ]
-
+          ∙ line_here p part.line part.kind some.0 some.1 in omega (arith, fits.0))
+    ]
 
 pub elements_found : (t x : List ℕ) (low : ℕ) (before parts : List PartTree) (d : Declaration) → FitParts low parts
     → find (called t) (declarations parts) ≡ Some d → same_kind ATable d.kind ≡ true
@@ -196,18 +201,23 @@ elements_found t x low before (part ∷ parts) d fits e same =
     let ds = declarations_of part.line part.kind in
     let here = find (called t) ds in
     let joined : option_or here (find (called t) (declarations parts)) ≡ Some d =
-      sym (find-append (called t) ds (declarations parts)) ∙ e in
+    sym (find-append (called t) ds (declarations parts)) ∙ e in
     list_any-append (is_named (d.line + 1) x) ds (declarations parts)
     ∙ elim (option_cases here) [
-      inl none ↦ (let later : find (called t) (declarations parts) ≡ Some d = rw none at joined in
+      | inl none ↦ (let later : find (called t) (declarations parts) ≡ Some d = rw none at joined in
           let after : part.line + 1 ≤ d.line = line_after (called t) (part.line + 1) parts d fits.2 later in
           rw (none_of_line d.line part.line x part.kind (λ h. omega arith), no_table_here part.line part.kind t none)
           (elements_found t x (part.line + 1) (before ++ part ∷ []) parts d fits.2 later same))
       | inr some ↦ (let found : some.0 ≡ d = same_Some _ _ (rw some.1 at joined) in
           let table = table_here part.line part.kind t d (some.1 ∙ ap Some found) same in
-          rw (table.on_line, table.there _, table.elements x,
-            none_later part.line (part.line + 1) x parts (omega arith) fits.2)
-          (or_false (is_one_of (listed (table_elements part.kind t)) x))) ]
+          rw (
+            table.on_line,
+            table.there _,
+            table.elements x,
+            none_later part.line (part.line + 1) x parts (omega arith) fits.2,
+          )
+          (or_false (is_one_of (listed (table_elements part.kind t)) x)))
+    ]
   where
     or_false : (b : Bool) → (b || false) ≡ b
     or_false true = refl
@@ -232,17 +242,19 @@ module _ (index : Names) (parts : List PartTree) (known : IsIndex index (declara
   element_known low fits t x =
       ap (λ (o : Option Found). has_element index o x) (shared_at t)
       ∙ elim (option_cases (declaration_of (declarations parts) t)) [
-        inl none ↦ rw none refl
-        | inr some ↦ rw some.1 (table_or_not some.0 some.1) ]
+        | inl none ↦ rw none refl
+        | inr some ↦ rw some.1 (table_or_not some.0 some.1)
+      ]
     where
       table_or_not : (d : Declaration) → declaration_of (declarations parts) t ≡ Some d
           → cond (same_kind ATable d.kind) (is_some (known_at index (d.line + 1) x)) true
           ≡ cond (same_kind ATable d.kind) (is_one_of (elements_of parts t) x) true
       table_or_not d e =
           elim (cases_Bool (same_kind ATable d.kind)) [
-            inl table ↦ (let f : is_some (known_at index (d.line + 1) x) ≡ is_one_of (elements_of parts t) x =
+            | inl table ↦ (let f : is_some (known_at index (d.line + 1) x) ≡ is_one_of (elements_of parts t) x =
                 element_at x d.line ∙ elements_found t x low [] parts d fits e table in rw f refl)
-            | inr other ↦ rw other refl ]
+            | inr other ↦ rw other refl
+          ]
 
   known_by-is_known : (low : ℕ) → FitParts low parts → (wanted : Wanted) (x : List ℕ)
       → known_by index wanted x ≡ is_known parts wanted x
@@ -259,4 +271,4 @@ module _ (index : Names) (parts : List PartTree) (known : IsIndex index (declara
   unfolding unknown_in
   unknown_in-uses low fits =
       ap (option_map used_place) (find_same _ _
-        (λ (u : Use). ap not (known_by-is_known low fits u.wanted u.name)) (uses parts))
+      (λ (u : Use). ap not (known_by-is_known low fits u.wanted u.name)) (uses parts))

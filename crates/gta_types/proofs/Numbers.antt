@@ -1,6 +1,5 @@
 -- The number of a name among names. Of any lists.
-use Rattle.std.proofs.Common.{◌≡◌, ℕ, zero, suc, ◌+◌, ◌<◌, ◌≤◌, Bool, true, false, not, List, [], ◌∷◌, ◌++◌, map, take, drop, length, get_or, refl, sym, ap, ◌∙◌, eqb, cond, arith}
-use Rattle.std.specs.List.{prefix_len}
+use Rattle.std.proofs.Common.{◌≡◌, ℕ, zero, suc, ◌+◌, ◌<◌, ◌≤◌, true, false, not, List, [], ◌∷◌, ◌++◌, map, take, drop, length, get_or, refl, sym, ap, ◌∙◌, eqb, cond, arith}
 use Rattle.std.specs.Str.{bytes_eq}
 use Rattle.std.proofs.lemmas.Bool.{eq-eqb, ne_eqb}
 use Rattle.std.proofs.lemmas.List.{map-append}
@@ -15,8 +14,9 @@ pub number_of-le : (names : List (List ℕ)) (x : List ℕ) → number_of names 
 number_of-le [] x = omega arith
 number_of-le (y ∷ ys) x =
     elim (bytes_eq y x) as (λ b. cond (not b) (1 + number_of ys x) 0 ≤ length (y ∷ ys)) [
-      true ↦ omega arith
-      | false ↦ (let h = number_of-le ys x in omega arith) ]
+      | true ↦ omega arith
+      | false ↦ (let h = number_of-le ys x in omega arith)
+    ]
 
 pub number_of-append-past : (xs ys : List (List ℕ)) (x : List ℕ) → length xs ≤ number_of xs x
     → number_of (xs ++ ys) x ≡ length xs + number_of ys x
@@ -51,7 +51,7 @@ pub number_at_mapped : {A : Type 0} (f : A → List ℕ) (xs : List A) (x : List
 number_at_mapped f xs x i d none lt is hit =
     number_met (map f (take i xs)) (map f (drop (i + 1) xs)) (f d) x i none (length_front f xs i lt) hit
     ∙ ap (λ (ys : List (List ℕ)). number_of ys x)
-      (sym (ap (map f) (split_at xs i d lt is) ∙ map-append f (take i xs) (d ∷ drop (i + 1) xs)))
+    (sym (ap (map f) (split_at xs i d lt is) ∙ map-append f (take i xs) (d ∷ drop (i + 1) xs)))
   where
     length_front : {A : Type 0} (f : A → List ℕ) (xs : List A) (i : ℕ) → i < length xs → length (map f (take i xs)) ≡ i
     length_front f xs i lt = grind (arith, common_steps, length-map)

@@ -1,9 +1,9 @@
 -- What holds of each line, and of the lines together, where no rule is broken.
-use Rattle.std.proofs.Common.{◌≡◌, ℕ, ◌+◌, ◌<◌, ◌≤◌, ◌≢◌, Bool, true, false, ◌&&◌, ◌||◌, not, List, [], ◌∷◌, ◌++◌, map, filter, length, Option, Some, None, option_map, cond, refl, sym, ap, ◌∙◌, inl, inr, ◌⊎◌, append_assoc, subst, leb, arith}
+use Rattle.std.proofs.Common.{◌≡◌, ℕ, ◌+◌, ◌≤◌, Bool, true, false, ◌&&◌, ◌||◌, List, [], ◌∷◌, ◌++◌, filter, length, Option, Some, None, option_map, cond, refl, sym, ap, ◌∙◌, inl, inr, append_assoc, subst, leb, arith}
 use Rattle.std.specs.List.{find, list_any, flat_map}
 use Rattle.std.proofs.lemmas.List.{append-nil, length-append}
 use Rattle.std.proofs.lemmas.List.Folds.{list_any-append}
-use Rattle.std.proofs.lemmas.Bool.{false≢true, cases_Bool, leb-false, and_parts}
+use Rattle.std.proofs.lemmas.Bool.{false≢true, cases_Bool, leb-false}
 use Rattle.std.proofs.lemmas.Option.{none-some}
 use Rattle.gta_spec.specs.Parts.{KindTree, PartTree}
 use Rattle.gta_spec.specs.WellFormed.{EachFits}
@@ -11,8 +11,7 @@ use Rattle.spec_rules.specs.declared.fault.SinglePart.{SinglePart}
 use Rattle.spec_rules.specs.declared.fault.SinglePart.TheVariants as singles
 use Rattle.spec_rules.specs.declared.fault.Limit.{Limit}
 use Rattle.spec_rules.specs.declared.fault.Limit.TheVariants as limits
-use Rattle.spec_rules.specs.declared.fault.RuleFault.TheVariants as faults
-use Rattle.spec_rules.specs.SpecRules.{or_else, first_answer, single_of, is_the, is_single, missing, repeated, second_part, labels_assign, is_past, all_limits, limit_fault, limit_at, second_at, earlier, count_of, passed_limit}
+use Rattle.spec_rules.specs.SpecRules.{or_else, first_answer, single_of, is_the, is_single, is_past, all_limits, limit_at, second_at, earlier}
 
 pub or_else_none : {A : Type 0} (x y : Option A) → or_else x y ≡ None → (x ≡ None) × (y ≡ None)
 or_else_none None y e = (refl, e)
@@ -26,8 +25,9 @@ pub none_found : {A : Type 0} (p : A → Bool) (xs : List A) → find p xs ≡ N
 none_found p [] e = tt
 none_found p (x ∷ xs) e =
     elim (cases_Bool (p x)) [
-      inl h ↦ absurd (none-some _ (sym (rw h at e)))
-      | inr h ↦ (h, none_found p xs (rw h at e)) ]
+      | inl h ↦ absurd (none-some _ (sym (rw h at e)))
+      | inr h ↦ (h, none_found p xs (rw h at e))
+    ]
 
 -- a line passes no limit beside the lines before it
 abbrev pub Kept : ℕ → KindTree → Type 0
@@ -61,21 +61,23 @@ pub all_kept : (before parts : List PartTree)
     → AllKept before parts
 all_kept before [] e = tt
 all_kept before (part ∷ parts) e =
-    let h = or_else_none _ _ e in
-    (kept_by (earlier before part.kind) part.kind
-      (none_found (is_past (earlier before part.kind) part.kind) all_limits (mapped_none _ _ h.0)),
-      all_kept (before ++ part ∷ []) parts h.1)
+    let h = or_else_none _ _ e in (
+      kept_by (earlier before part.kind) part.kind
+          (none_found (is_past (earlier before part.kind) part.kind) all_limits (mapped_none _ _ h.0)),
+      all_kept (before ++ part ∷ []) parts h.1,
+    )
 
 filter-append : {A : Type 0} (p : A → Bool) (xs ys : List A) → filter p (xs ++ ys) ≡ filter p xs ++ filter p ys
 filter-append p [] ys = refl
 filter-append p (x ∷ xs) ys =
     elim (cases_Bool (p x)) [
-      inl h ↦ rw (h, filter-append p xs ys) refl
-      | inr h ↦ rw (h, filter-append p xs ys) refl ]
+      | inl h ↦ rw (h, filter-append p xs ys) refl
+      | inr h ↦ rw (h, filter-append p xs ys) refl
+    ]
 
 module _ (is_kind : KindTree → Bool) (limit : ℕ)
     (pick : (before : List PartTree) (kind : KindTree) → Kept (earlier before kind) kind
-      → (is_kind kind && leb limit (length (filter (λ line. is_kind line.kind) before))) ≡ false) where
+    → (is_kind kind && leb limit (length (filter (λ line. is_kind line.kind) before))) ≡ false) where
   few_from : (before parts : List PartTree) → AllKept before parts
       → length (filter (λ line. is_kind line.kind) before) ≤ limit
       → length (filter (λ line. is_kind line.kind) (before ++ parts)) ≤ limit
@@ -83,12 +85,13 @@ module _ (is_kind : KindTree → Bool) (limit : ℕ)
   few_from before (part ∷ parts) kept few =
       let K = λ (line : PartTree). is_kind line.kind in
       let len : length (filter K (before ++ part ∷ [])) ≡ length (filter K before) + length (filter K (part ∷ [])) =
-        ap length (filter-append K before (part ∷ [])) ∙ length-append (filter K before) (filter K (part ∷ [])) in
+      ap length (filter-append K before (part ∷ [])) ∙ length-append (filter K before) (filter K (part ∷ [])) in
       let next : length (filter K (before ++ part ∷ [])) ≤ limit =
-        elim (cases_Bool (is_kind part.kind)) [
-          inl h ↦ (let below = leb-false limit (length (filter K before)) (rw h at (pick before part.kind kept.0)) in
+      elim (cases_Bool (is_kind part.kind)) [
+        | inl h ↦ (let below = leb-false limit (length (filter K before)) (rw h at (pick before part.kind kept.0)) in
             let one : length (filter K (part ∷ [])) ≡ 1 = rw h refl in omega arith)
-          | inr h ↦ (let none : length (filter K (part ∷ [])) ≡ 0 = rw h refl in omega arith) ] in
+        | inr h ↦ (let none : length (filter K (part ∷ [])) ≡ 0 = rw h refl in omega arith)
+      ] in
       let P : List PartTree → Type 0 = λ ps. length (filter K ps) ≤ limit in
       subst P (append_assoc before (part ∷ []) parts) (few_from (before ++ part ∷ []) parts kept.1 next)
 
@@ -103,8 +106,9 @@ module _ (is_kind : KindTree → Bool) (limit : ℕ)
   length_lines g one (part ∷ parts) =
       length-append (g part.kind) (flat_map (λ (part : PartTree). g part.kind) parts)
       ∙ elim (cases_Bool (is_kind part.kind)) [
-        inl h ↦ (let here = rw h at (one part.kind) in let rest = length_lines g one parts in rw h (omega arith))
-        | inr h ↦ (let here = rw h at (one part.kind) in let rest = length_lines g one parts in rw h (omega arith)) ]
+        | inl h ↦ (let here = rw h at (one part.kind) in let rest = length_lines g one parts in rw h (omega arith))
+        | inr h ↦ (let here = rw h at (one part.kind) in let rest = length_lines g one parts in rw h (omega arith))
+      ]
 
 -- a line repeats no part beside the lines before it
 abbrev pub AllOnce : List PartTree → List PartTree → Type 0
@@ -120,12 +124,12 @@ all_once before [] e = tt
 all_once before (part ∷ parts) e =
     let h = or_else_none _ _ e in
     let each = none_found (λ single. is_single single part && list_any (is_single single) before)
-      (singles.Columns ∷ singles.Labels ∷ singles.Generate ∷ singles.Aggregate ∷ []) (mapped_none _ _ h.0) in
+    (singles.Columns ∷ singles.Labels ∷ singles.Generate ∷ singles.Aggregate ∷ []) (mapped_none _ _ h.0) in
     (once before part each, all_once (before ++ part ∷ []) parts h.1)
   where
     once : (before : List PartTree) (part : PartTree)
         → EachFits (λ single. (is_single single part && list_any (is_single single) before) ≡ false)
-          (singles.Columns ∷ singles.Labels ∷ singles.Generate ∷ singles.Aggregate ∷ [])
+        (singles.Columns ∷ singles.Labels ∷ singles.Generate ∷ singles.Aggregate ∷ [])
         → (single : SinglePart) → (is_single single part && list_any (is_single single) before) ≡ false
     once before part each singles.Columns = each.0
     once before part each singles.Labels = each.1.0
@@ -147,7 +151,7 @@ module _ {A : Type 0} (single : SinglePart) (g : KindTree → List A)
   no_more before (part ∷ parts) once there =
       let here : is_single single part ≡ false = and_true _ (rw there at (once.0 single)) in
       let seen : list_any (is_single single) (before ++ part ∷ []) ≡ true =
-        list_any-append (is_single single) before (part ∷ []) ∙ rw there refl in
+      list_any-append (is_single single) before (part ∷ []) ∙ rw there refl in
       rw (none part.kind here, no_more (before ++ part ∷ []) parts once.1 seen) refl
     where
       and_true : (b : Bool) → (b && true) ≡ false → b ≡ false
@@ -159,13 +163,22 @@ module _ {A : Type 0} (single : SinglePart) (g : KindTree → List A)
   the_only P before [] once fits there = absurd (false≢true there)
   the_only P before (part ∷ parts) once fits there =
       elim (cases_Bool (is_single single part)) [
-        inl h ↦ (let seen : list_any (is_single single) (before ++ part ∷ []) ≡ true =
+        | inl h ↦ (let seen : list_any (is_single single) (before ++ part ∷ []) ≡ true =
             list_any-append (is_single single) before (part ∷ []) ∙ rw h (or_true (list_any (is_single single) before)) in
-          record { line = part; is = h; fits = fits.0;
-            only = rw (no_more (before ++ part ∷ []) parts once.1 seen) (append-nil (g part.kind)) })
+            record {
+              line = part;
+              is = h;
+              fits = fits.0;
+              only = rw (no_more (before ++ part ∷ []) parts once.1 seen) (append-nil (g part.kind));
+            })
         | inr h ↦ (let rest = the_only P (before ++ part ∷ []) parts once.1 fits.1 (rw h at there) in
-          record { line = rest.line; is = rest.is; fits = rest.fits;
-            only = rw (none part.kind h) rest.only }) ]
+            record {
+              line = rest.line;
+              is = rest.is;
+              fits = rest.fits;
+              only = rw (none part.kind h) rest.only;
+            })
+      ]
     where
       or_true : (b : Bool) → (b || true) ≡ true
       or_true true = refl
@@ -176,5 +189,6 @@ module _ {A : Type 0} (single : SinglePart) (g : KindTree → List A)
   none_there [] there = refl
   none_there (part ∷ parts) there =
       elim (cases_Bool (is_single single part)) [
-        inl h ↦ absurd (false≢true (sym (rw h at there)))
-        | inr h ↦ rw (none part.kind h) (none_there parts (rw h at there)) ]
+        | inl h ↦ absurd (false≢true (sym (rw h at there)))
+        | inr h ↦ rw (none part.kind h) (none_there parts (rw h at there))
+      ]

@@ -7,8 +7,6 @@ use Rattle.std.proofs.lemmas.List.Folds.{find-append}
 use Rattle.std.proofs.lemmas.List.{append-nil}
 use Rattle.std.proofs.lemmas.Bool.{eq-eqb, ne_eqb, cases_eq}
 use Rattle.spec_rules.specs.SpecRules.{or_else, first_answer}
-use Rattle.gta_types.specs.declared.declaring.NameKind.{NameKind}
-use Rattle.gta_types.specs.declared.declaring.NameKind.TheVariants.{AColumn, ALabel, AMeasure, ATable, AnElement}
 use Rattle.gta_types.specs.declared.names.Found.{Found}
 use Rattle.gta_types.specs.declared.names.Names.{Names}
 use Rattle.gta_types.specs.Names.{Declaration, is_element, share_names, declared_again, declared_twice}
@@ -47,8 +45,9 @@ pub is_some-mapped_find : {A B : Type 0} (f : A → B) (p : A → Bool) (xs : Li
 is_some-mapped_find f p [] = refl
 is_some-mapped_find f p (x ∷ xs) =
     elim (p x) as (λ b. is_some (option_map f (cond b (Some x) (find p xs))) ≡ (b || list_any p xs)) [
-      true ↦ refl
-      | false ↦ is_some-mapped_find f p xs ]
+      | true ↦ refl
+      | false ↦ is_some-mapped_find f p xs
+    ]
 
 list_any_same : {A : Type 0} (p q : A → Bool) → ((x : A) → p x ≡ q x) → (xs : List A) → list_any p xs ≡ list_any q xs
 list_any_same p q same [] = refl
@@ -57,15 +56,17 @@ list_any_same p q same (x ∷ xs) = rw (same x, list_any_same p q same xs) refl
 nat_eq_swap : (m n : ℕ) → nat_eq m n ≡ nat_eq n m
 nat_eq_swap m n =
     elim (cases_eq m n) [
-      inl e ↦ eq-eqb m n e ∙ sym (eq-eqb n m (sym e))
-      | inr k ↦ ne_eqb m n k ∙ sym (ne_eqb n m (λ e. k (sym e))) ]
+      | inl e ↦ eq-eqb m n e ∙ sym (eq-eqb n m (sym e))
+      | inr k ↦ ne_eqb m n k ∙ sym (ne_eqb n m (λ e. k (sym e)))
+    ]
 
 nat_eq_next : (m n : ℕ) → nat_eq (m + 1) (n + 1) ≡ nat_eq n m
 nat_eq_next m n =
     elim (cases_eq m n) [
-      inl e ↦ (let f : m + 1 ≡ n + 1 = omega arith in eq-eqb (m + 1) (n + 1) f ∙ sym (eq-eqb n m (sym e)))
+      | inl e ↦ (let f : m + 1 ≡ n + 1 = omega arith in eq-eqb (m + 1) (n + 1) f ∙ sym (eq-eqb n m (sym e)))
       | inr k ↦ (let f : m + 1 ≡ n + 1 → ⊥ = λ e. k (omega arith) in
-          ne_eqb (m + 1) (n + 1) f ∙ sym (ne_eqb n m (λ e. k (sym e)))) ]
+          ne_eqb (m + 1) (n + 1) f ∙ sym (ne_eqb n m (λ e. k (sym e))))
+    ]
 
 same_scope : (e d : Bool) (m n : ℕ)
     → nat_eq (cond d (n + 1) 0) (cond e (m + 1) 0) ≡ cond e (d && nat_eq m n) (not d)
@@ -99,7 +100,7 @@ pub first_answer-append : {A B : Type 0} (ask : List A → A → Option B) (befo
 first_answer-append ask before [] ys = ap (λ (b : List _). first_answer ask b ys) (sym (append-nil before))
 first_answer-append ask before (x ∷ xs) ys =
     ap (or_else (ask before x)) (first_answer-append ask (before ++ x ∷ []) xs ys
-      ∙ ap (λ (b : List _). or_else (first_answer ask (before ++ x ∷ []) xs) (first_answer ask b ys)) (append_assoc before (x ∷ []) xs))
+    ∙ ap (λ (b : List _). or_else (first_answer ask (before ++ x ∷ []) xs) (first_answer ask b ys)) (append_assoc before (x ∷ []) xs))
     ∙ sym (or_else-assoc (ask before x) _ _)
 
 declared_twice-push : (all : List Declaration) (d : Declaration)
@@ -111,7 +112,7 @@ pub index_more : (names after : Names) (all : List Declaration) (d : Declaration
     (t : ℕ) (y : List ℕ) (v : Found) → IsIndex names all
     → t ≡ scope_of d → y ≡ d.name → v ≡ found_of d
     → ((s : ℕ) (x : List ℕ) → known_at after s x
-      ≡ option_or (known_at names s x) (cond (nat_eq s t && bytes_eq x y) (Some v) None))
+    ≡ option_or (known_at names s x) (cond (nat_eq s t && bytes_eq x y) (Some v) None))
     → IsIndex after (all ++ d ∷ [])
 index_more names after all d t y v known at_scope at_name is_found added = λ s x.
     added s x
@@ -126,11 +127,11 @@ pub twice_more : (names : Names) (all : List Declaration) (d : Declaration) (aga
 unfolding first_in
 twice_more names all d again t y known at_scope at_name is =
     let e : again ≡ list_any (λ e. share_names e d && bytes_eq e.name d.name) all =
-      is ∙ rw (at_scope, at_name) refl ∙ ap (λ (o : Option Found). is_some o) (known (scope_of d) d.name)
-      ∙ is_some-mapped_find found_of (is_named (scope_of d) d.name) all
-      ∙ list_any_same _ _ (is_named_again d) all in
+    is ∙ rw (at_scope, at_name) refl ∙ ap (λ (o : Option Found). is_some o) (known (scope_of d) d.name)
+    ∙ is_some-mapped_find found_of (is_named (scope_of d) d.name) all
+    ∙ list_any_same _ _ (is_named_again d) all in
     ap (option_map declared_place) (declared_twice-push all d)
     ∙ or_else_mapped declared_place (declared_twice all) (declared_again all d)
     ∙ ap (or_else (option_map declared_place (declared_twice all)))
-      (mapped_cond declared_place (list_any (λ e. share_names e d && bytes_eq e.name d.name) all) d
-      ∙ ap (λ (b : Bool). cond b (Some (declared_place d)) None) (sym e))
+    (mapped_cond declared_place (list_any (λ e. share_names e d && bytes_eq e.name d.name) all) d
+    ∙ ap (λ (b : Bool). cond b (Some (declared_place d)) None) (sym e))

@@ -1,7 +1,7 @@
 -- The first unknown use of joined lists of uses, and of the uses of each item of a list.
-use Rattle.std.proofs.Common.{◌≡◌, ℕ, ◌+◌, ◌<◌, List, [], ◌∷◌, ◌++◌, map, take, drop, length, get_or, Bool, true, false, is_some, Option, Some, None, option_map, refl, sym, ap, ◌∙◌, not, arith}
+use Rattle.std.proofs.Common.{◌≡◌, ℕ, ◌+◌, ◌<◌, List, [], ◌∷◌, ◌++◌, take, drop, length, get_or, true, false, is_some, Option, Some, None, option_map, refl, sym, ap, ◌∙◌, not}
 use Rattle.std.specs.Option.{option_or}
-use Rattle.std.specs.List.{find, flat_map}
+use Rattle.std.specs.List.{flat_map}
 use Rattle.std.proofs.lemmas.List.{append-nil}
 use Rattle.std.proofs.lemmas.Bool.{false≢true}
 use Rattle.std.proofs.lemmas.List.Folds.{find-append}
@@ -41,7 +41,7 @@ module _ {A : Type 0} (names : Names) (f : A → List Use) (xs : List A) (i : �
   unknown_none_more found lt is before here absent =
       ap (λ (ys : List A). unknown_in names (flat_map f ys)) (take_next xs i x lt is)
       ∙ ap (unknown_in names) (flat_map-append f (take i xs) (x ∷ [])
-        ∙ ap (λ (us : List Use). flat_map f (take i xs) ++ us) (append-nil (f x)))
+      ∙ ap (λ (us : List Use). flat_map f (take i xs) ++ us) (append-nil (f x)))
       ∙ unknown_in-append names (flat_map f (take i xs)) (f x)
       ∙ rw (before, none_here found (sym absent) here) refl
 
@@ -57,11 +57,11 @@ module _ {A : Type 0} (names : Names) (f : A → List Use) (xs : List A) (i : �
   unknown_first found lt is before here there =
       let rest = unknown_in names (flat_map f (drop (i + 1) xs)) in
       let e : unknown_in names (flat_map f xs) ≡ option_or (unknown_in names (f x)) rest =
-        ap (λ (ys : List A). unknown_in names (flat_map f ys)) (split_at xs i x lt is)
-        ∙ ap (unknown_in names) (flat_map-append f (take i xs) (x ∷ drop (i + 1) xs))
-        ∙ unknown_in-append names (flat_map f (take i xs)) (f x ++ flat_map f (drop (i + 1) xs))
-        ∙ rw before refl
-        ∙ unknown_in-append names (f x) (flat_map f (drop (i + 1) xs)) in
+      ap (λ (ys : List A). unknown_in names (flat_map f ys)) (split_at xs i x lt is)
+      ∙ ap (unknown_in names) (flat_map-append f (take i xs) (x ∷ drop (i + 1) xs))
+      ∙ unknown_in-append names (flat_map f (take i xs)) (f x ++ flat_map f (drop (i + 1) xs))
+      ∙ rw before refl
+      ∙ unknown_in-append names (f x) (flat_map f (drop (i + 1) xs)) in
       some_here found rest there ∙ ap (λ (o : Option (ℕ × List ℕ)). option_or o rest) here ∙ sym e
 
 pub unknown_front : (names : Names) (us vs : List Use) (found : Option Place)

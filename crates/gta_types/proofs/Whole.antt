@@ -1,33 +1,32 @@
 -- What holds of a specification without a fault, and that its resolved form is within the limits.
-use Rattle.std.proofs.Common.{◌≡◌, ◌↔◌, ℕ, ◌+◌, ◌<◌, ◌≤◌, Bool, true, false, ◌||◌, not, List, [], ◌∷◌, ◌++◌, map, length, get_or, Option, Some, None, is_some, option_map, All, cond, refl, sym, ap, ◌∙◌, inl, inr, ◌⊎◌, subst, arith}
-use Rattle.std.specs.List.{find, list_any, flat_map}
-use Rattle.std.proofs.lemmas.List.{length-map, length-append}
+use Rattle.std.proofs.Common.{◌≡◌, ◌↔◌, ℕ, ◌≤◌, Bool, true, false, ◌||◌, not, List, [], ◌∷◌, map, length, get_or, Option, Some, None, is_some, cond, refl, sym, ap, ◌∙◌, inl, inr, subst, arith}
+use Rattle.std.specs.List.{list_any, flat_map}
+use Rattle.std.proofs.lemmas.List.{length-map}
 use Rattle.std.proofs.lemmas.List.Folds.{list_any-append}
 use Rattle.std.proofs.lemmas.Bool.{false≢true, cases_Bool, ltb-false, not-false}
 use Rattle.std.proofs.lemmas.Option.{none-some}
 use Rattle.shape_gen.specs.declared.shape.Shape.{Shape}
 use Rattle.shape_gen.specs.declared.shape.Shape.TheVariants.{Sublists, Assign, Prefixes, Suffixes, Segments}
-use Rattle.gta_spec.specs.declared.limits.TheConstants.{COLUMN_LIMIT, LABEL_LIMIT, MEASURE_LIMIT}
+use Rattle.gta_spec.specs.declared.limits.TheConstants.{COLUMN_LIMIT, LABEL_LIMIT}
 use Rattle.gta_spec.specs.declared.parts.Part.{Part}
 use Rattle.gta_spec.specs.Parts.{KindTree, Columns, Labels, Measure, Table, Times, Generate, Test, Aggregate, PartTree, SpecTree, part_tree, kind_tree}
 use Rattle.gta_spec.specs.WellFormed.{EachFits, IsWellFormed}
 use Rattle.gta_checked.specs.declared.resolved.Goal.{Goal}
 use Rattle.gta_checked.specs.Plain.{PlainChecked}
-use Rattle.gta_checked.specs.Within.{IsMeasureWithin, IsTestWithin, IsGoalWithin, IsWithinLimits}
-use Rattle.spec_rules.specs.declared.fault.SinglePart.{SinglePart}
+use Rattle.gta_checked.specs.Within.{IsGoalWithin, IsWithinLimits}
 use Rattle.spec_rules.specs.declared.fault.SinglePart.TheVariants as singles
 use Rattle.spec_rules.specs.declared.fault.Limit.TheVariants as limits
-use Rattle.spec_rules.specs.SpecRules.{or_else, single_of, is_the, is_single, first_line, missing, labels_assign_of, labels_assign, rule_fault, is_assign, is_table}
+use Rattle.spec_rules.specs.SpecRules.{single_of, is_the, is_single, first_line, labels_assign_of, labels_assign, rule_fault, is_assign, is_table}
 use Rattle.gta_types.specs.declared.fault.CheckFault.{CheckFault}
 use Rattle.gta_types.specs.Names.{Use, is_known, uses}
 use Rattle.gta_types.specs.Resolved.{column_items, label_names, table_parts, environment, shapes_of, goals_of, resolved_goal, measures_of, IsResolved}
 use Rattle.gta_types.specs.Ready.{IsReady}
 use Rattle.gta_types.specs.Lists.{HasFewNames}
-use Rattle.gta_types.specs.Faults.{check_fault, unbuilt, fault_of_rule}
+use Rattle.gta_types.specs.Faults.{check_fault, fault_of_rule}
 use Rattle.gta_types.proofs.FirstFault.{no_name_fault}
 use Rattle.gta_types.proofs.Twice.{is_some-mapped_find}
 use Rattle.gta_types.proofs.Rules.{or_else_none, mapped_none, none_found, AllKept, all_kept, AllOnce, all_once, IsOnly, the_only, none_there}
-use Rattle.gta_types.proofs.Within.{Known, column_count, label_count, or_false_parts}
+use Rattle.gta_types.proofs.Within.{column_count, label_count, or_false_parts}
 use Rattle.gta_types.proofs.Accepted.{LineFacts, line_facts, few_measure_names, few_tests, measures_length, all_measures, all_tests, goal_of_line}
 
 -- what holds of lines without a fault
@@ -55,12 +54,12 @@ is_sound spec well accepted =
     let more = or_else_none _ _ rules.1 in
     let last = or_else_none _ _ more.1 in
     let there = none_found (λ part. not (list_any (is_single part) spec.parts))
-      (singles.Columns ∷ singles.Generate ∷ singles.Aggregate ∷ []) (mapped_none _ _ rules.0) in
+    (singles.Columns ∷ singles.Generate ∷ singles.Aggregate ∷ []) (mapped_none _ _ rules.0) in
     let no_tables = unbuilt_none _ _ b.1 in
     let kept = all_kept [] spec.parts last.1 in
     record {
       facts = line_facts spec.parts no_tables 0 [] spec.parts well.parts kept
-        (none_found (λ (u : Use). not (is_known spec.parts u.wanted u.name)) (uses spec.parts) names.0);
+          (none_found (λ (u : Use). not (is_known spec.parts u.wanted u.name)) (uses spec.parts) names.0);
       kept = kept;
       once = all_once [] spec.parts more.0;
       has_columns = not-false _ there.0;
@@ -156,9 +155,12 @@ one_goal all line (Table part) is facts = absurd (false≢true is)
 one_goal all line (Times part) is facts = absurd (false≢true is)
 one_goal all line (Generate shape) is facts = absurd (false≢true is)
 one_goal all line (Test test) is facts = absurd (false≢true is)
-one_goal all line (Aggregate goal) is facts = (refl, λ g e.
-    let same : g ≡ resolved_goal (environment all) goal = cc in
-    subst (IsGoalWithin (length (measures_of all))) (sym same) (goal_of_line all line goal facts))
+one_goal all line (Aggregate goal) is facts = (
+  refl,
+  λ g e.
+      let same : g ≡ resolved_goal (environment all) goal = cc in
+      subst (IsGoalWithin (length (measures_of all))) (sym same) (goal_of_line all line goal facts),
+)
 
 no_table_parts : (parts : List PartTree) → list_any (λ (part : PartTree). is_table part.kind) parts ≡ false
     → flat_map (λ (part : PartTree). table_parts part.kind) parts ≡ []
@@ -205,8 +207,9 @@ module _ (all : List PartTree) (sound : IsSound all) where
   pub few_labels : label_count all ≤ LABEL_LIMIT
   few_labels =
       elim (cases_Bool (list_any (is_single singles.Labels) all)) [
-        inl h ↦ (labels_there h).1
-        | inr h ↦ (let e = no_labels h in omega (arith, e)) ]
+        | inl h ↦ (labels_there h).1
+        | inr h ↦ (let e = no_labels h in omega (arith, e))
+      ]
 
   pub has_few_names : HasFewNames all
   has_few_names = record {
@@ -279,11 +282,13 @@ assigned_labels : (all : List PartTree) → IsSound all → (shape : Shape)
     → shape ∷ [] ≡ flat_map (λ (part : PartTree). shapes_of part.kind) all → (shape ≡ Assign) ↔ (1 ≤ label_count all)
 assigned_labels all sound shape only =
     let same : (is_assign_shape shape || false) ≡ list_any (is_single singles.Labels) all =
-      ap (list_any is_assign_shape) only ∙ sym (any_assign all) ∙ assign_labels all sound.assigned in
-    ((λ e. (labels_there all sound (sym same ∙ ap (λ (s : Shape). is_assign_shape s || false) e)).0),
+    ap (list_any is_assign_shape) only ∙ sym (any_assign all) ∙ assign_labels all sound.assigned in (
+      (λ e. (labels_there all sound (sym same ∙ ap (λ (s : Shape). is_assign_shape s || false) e)).0),
       (λ some. elim (cases_Bool (list_any (is_single singles.Labels) all)) [
-        inl h ↦ is_the_assign shape (same ∙ h)
-        | inr h ↦ (let none = no_labels all sound h in absurd (omega (arith, none, some))) ]))
+        | inl h ↦ is_the_assign shape (same ∙ h)
+        | inr h ↦ (let none = no_labels all sound h in absurd (omega (arith, none, some)))
+      ]),
+    )
 
 pub within_limits : (spec : SpecTree) → IsSound spec.parts → (checked : PlainChecked) → IsResolved spec checked
     → IsWithinLimits checked
@@ -307,9 +312,10 @@ within_limits spec sound checked resolved =
 pub all_ready : (all : List PartTree) (parts : List Part) → EachFits (Facts all) (map part_tree parts)
     → EachFits IsReady (map (λ (part : Part). kind_tree part.kind) parts)
 all_ready all [] facts = tt
-all_ready all (part ∷ parts) facts =
-    (record { fits = facts.0.fits; kept = facts.0.kept limits.Kept; no_fold = facts.0.no_fold },
-      all_ready all parts facts.1)
+all_ready all (part ∷ parts) facts = (
+  record { fits = facts.0.fits; kept = facts.0.kept limits.Kept; no_fold = facts.0.no_fold },
+  all_ready all parts facts.1,
+)
 
 pub the_one : {A : Type 0} (xs : List A) (x : A) → length xs ≡ 1 → x ≡ get_or xs 0 x → x ∷ [] ≡ xs
 the_one [] x len is = absurd (omega (arith, len))

@@ -1,27 +1,23 @@
 -- A line that is well formed, passes no limit and uses known names is within the limits once its names are resolved.
-use Rattle.std.proofs.Common.{◌≡◌, ℕ, zero, suc, ◌+◌, ◌<◌, ◌≤◌, Bool, true, false, ◌&&◌, ◌||◌, not, nat_lt, nat_le, List, [], ◌∷◌, ◌++◌, map, length, Option, Some, None, option_map, All, ℤ, pos, negsuc, neg_ℤ, ◌≤ℤ◌, nat_abs, cond, refl, sym, ap, ◌∙◌, inl, inr, ◌⊎◌, subst, arith}
-use Rattle.std.specs.List.{find, list_any, flat_map, range_with_len}
-use Rattle.std.specs.Int.RustNames.{int_lt}
-use Rattle.std.proofs.lemmas.List.{length-map, length-append}
-use Rattle.std.proofs.lemmas.List.Elements.{All-nil, All-cons, All-append}
-use Rattle.std.proofs.lemmas.Bool.{false≢true, cases_Bool, ltb-false, leb-false, not-false}
+use Rattle.std.proofs.Common.{◌≡◌, ℕ, zero, suc, ◌<◌, Bool, true, false, ◌||◌, not, nat_lt, List, [], ◌∷◌, ◌++◌, map, length, Option, Some, None, option_map, All, pos, negsuc, nat_abs, cond, refl, sym, arith}
+use Rattle.std.specs.List.{list_any, flat_map}
+use Rattle.std.proofs.lemmas.List.{length-map}
+use Rattle.std.proofs.lemmas.List.Elements.{All-nil, All-cons}
+use Rattle.std.proofs.lemmas.Bool.{false≢true, ltb-false, leb-false, not-false}
 use Rattle.std.proofs.lemmas.Int.{ints}
-use Rattle.gta_text.specs.declared.numbers.TheConstants.{NUMBER_BOUND}
-use Rattle.gta_spec.specs.declared.limits.TheConstants.{ATOM_LIMIT, BOUND_LIMIT, CASE_LIMIT, FACTOR_LIMIT, KEEP_LIMIT, MODULUS_LIMIT, TERM_LIMIT}
+use Rattle.gta_spec.specs.declared.limits.TheConstants.{ATOM_LIMIT, BOUND_LIMIT, FACTOR_LIMIT, MODULUS_LIMIT, TERM_LIMIT}
 use Rattle.gta_spec.specs.declared.parts.TermPart.{TermPart}
 use Rattle.gta_spec.specs.declared.parts.AtomPart.{AtomPart}
 use Rattle.gta_spec.specs.declared.parts.AtomPart.TheVariants as atom_parts
 use Rattle.gta_spec.specs.declared.parts.Check.{Check}
 use Rattle.gta_spec.specs.declared.parts.Check.TheVariants.{Compare, Mod}
-use Rattle.gta_spec.specs.declared.parts.GoalPart.{GoalPart}
-use Rattle.gta_spec.specs.declared.parts.GoalPart.TheVariants as goals
-use Rattle.gta_spec.specs.Parts.{CaseTree, TestTree, Sum, Length, Fold, KindTree, Columns, Labels, Measure, Table, Times, Generate, Test, Aggregate, PartTree}
-use Rattle.gta_spec.specs.WellFormed.{EachFits, FitsQuantity, FitsTerm, FitsCase, FitsCheck, FitsTest, FitsKind}
-use Rattle.gta_checked.specs.Within.{IsFactorWithin, IsTermWithin, IsAtomWithin, IsConditionWithin, IsCaseWithin, IsMeasureWithin, IsCheckWithin, IsTestWithin, IsGoalWithin}
-use Rattle.spec_rules.specs.SpecRules.{is_longer, case_forms, case_conditions, is_quantity_past, is_factor_past, is_bound_past, is_modulus_past, is_residue_past, is_kept_past}
-use Rattle.gta_types.specs.Names.{Use, Column, Label, Weight, use_as, is_known, uses_of_term, use_of_atom, uses_of_case, uses_of_test, uses_of_goal, uses_of}
-use Rattle.gta_types.specs.Resolved.{number_of, number_of_weight, column_items, environment, signed, factor_of, resolved_term, resolved_atom, resolved_case, resolved_test, resolved_goal, measures_of}
-use Rattle.gta_types.proofs.InRange.{column_in, label_in, weight_in}
+use Rattle.gta_spec.specs.Parts.{CaseTree, PartTree}
+use Rattle.gta_spec.specs.WellFormed.{EachFits, FitsQuantity, FitsTerm, FitsCase}
+use Rattle.gta_checked.specs.Within.{IsFactorWithin, IsTermWithin, IsAtomWithin, IsCaseWithin, IsCheckWithin}
+use Rattle.spec_rules.specs.SpecRules.{is_longer, case_forms, case_conditions, is_quantity_past, is_factor_past, is_bound_past, is_modulus_past, is_residue_past}
+use Rattle.gta_types.specs.Names.{Use, Column, use_as, is_known, uses_of_term, use_of_atom, uses_of_case}
+use Rattle.gta_types.specs.Resolved.{number_of, column_items, environment, signed, factor_of, resolved_term, resolved_atom, resolved_case}
+use Rattle.gta_types.proofs.InRange.{column_in, label_in}
 
 -- a name is declared for its use
 abbrev pub Known : List PartTree → Use → Type 0
@@ -64,9 +60,10 @@ module _ (all : List PartTree) (line : ℕ) where
   factor_within minus None (Some x) fits past known =
       (column_within x known.0, (let e = nat_abs-signed minus 1 in omega arith))
   factor_within minus (Some n) None fits past known = rw (nat_abs-signed minus n) fits
-  factor_within minus (Some n) (Some x) fits past known =
-      (column_within x known.0,
-        (let e = nat_abs-signed minus n in let few = ltb-false FACTOR_LIMIT n past in omega arith))
+  factor_within minus (Some n) (Some x) fits past known = (
+    column_within x known.0,
+    (let e = nat_abs-signed minus n in let few = ltb-false FACTOR_LIMIT n past in omega arith),
+  )
 
   terms_within : (form : List TermPart) → EachFits FitsTerm form → list_any is_factor_past form ≡ false
       → EachFits (Known all) (flat_map (λ (term : TermPart). uses_of_term line term.name) form)
@@ -76,7 +73,7 @@ module _ (all : List PartTree) (line : ℕ) where
       let past_parts = or_false_parts (is_factor_past term) (list_any is_factor_past form) past in
       All-cons (IsTermWithin (column_count all)) (resolved_term (environment all) term) (map (resolved_term (environment all)) form)
       (factor_within term.minus term.number term.name fits.0 past_parts.0
-        (each_front (Known all) (uses_of_term line term.name) _ known))
+      (each_front (Known all) (uses_of_term line term.name) _ known))
       (terms_within form fits.1 past_parts.1 (each_back (Known all) (uses_of_term line term.name) _ known))
 
   atom_within : (atom : AtomPart) → Known all (use_of_atom line atom)
@@ -97,13 +94,15 @@ module _ (all : List PartTree) (line : ℕ) where
       → IsCaseWithin (column_count all) (label_count all) (resolved_case (environment all) case)
   case_within case fits terms atoms factors known = record {
     few_terms = (let l = length-map case.form (resolved_term (environment all)) in
-      let few = ltb-false TERM_LIMIT (length case.form) terms in omega arith);
+        let few = ltb-false TERM_LIMIT (length case.form) terms in omega arith);
     terms = terms_within case.form fits.0.1 factors
-      (each_front (Known all) (flat_map (λ (term : TermPart). uses_of_term line term.name) case.form) _ known);
-    condition = ((let l = length-map case.cond (resolved_atom (environment all)) in
-        let few = ltb-false ATOM_LIMIT (length case.cond) atoms in omega arith),
+        (each_front (Known all) (flat_map (λ (term : TermPart). uses_of_term line term.name) case.form) _ known);
+    condition = (
+      (let l = length-map case.cond (resolved_atom (environment all)) in
+          let few = ltb-false ATOM_LIMIT (length case.cond) atoms in omega arith),
       atoms_within case.cond
-        (each_back (Known all) (flat_map (λ (term : TermPart). uses_of_term line term.name) case.form) _ known));
+          (each_back (Known all) (flat_map (λ (term : TermPart). uses_of_term line term.name) case.form) _ known),
+    );
   }
 
   pub cases_within : (cases : List CaseTree) → EachFits FitsCase cases

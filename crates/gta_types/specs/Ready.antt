@@ -2,7 +2,7 @@
 use Rattle.std.specs.Prelude.{◌≡◌, Bool, true, false}
 use Rattle.gta_spec.specs.Parts.{TestTree, Fold, KindTree, Test}
 use Rattle.gta_spec.specs.WellFormed.{FitsKind}
-use Rattle.spec_rules.specs.SpecRules.{is_kept_past, is_table}
+use Rattle.spec_rules.specs.SpecRules.{is_kept_past}
 
 abbrev pub is_fold_test : TestTree → Bool
 is_fold_test (Fold table picks accept) = true

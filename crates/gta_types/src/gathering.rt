@@ -58,11 +58,7 @@ fn copy_items(
     Ok(())
 }
 
-fn gather_part(
-    alloc: Global,
-    gathered: &mut Gathered,
-    kind: &PartKind,
-) -> Result<(), AllocError>
+fn gather_part(alloc: Global, gathered: &mut Gathered, kind: &PartKind) -> Result<(), AllocError>
     ensures { OnOk result (HasGatheredMore (kind_tree kind.now) gathered.old gathered.new) }
 {
     match kind {

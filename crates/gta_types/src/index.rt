@@ -17,10 +17,7 @@ pub(crate) struct Index<'a> {
 }
 
 /// The index of these declarations, in one pass.
-pub(crate) fn index_of<'a>(
-    alloc: Global,
-    all: &[Declared<'a>],
-) -> Result<Index<'a>, AllocError>
+pub(crate) fn index_of<'a>(alloc: Global, all: &[Declared<'a>]) -> Result<Index<'a>, AllocError>
     ensures names { IfOk result (λ index. IsIndex index.names (map declaration all.now)) }
     ensures twice { IfOk result (λ index. option_map place index.twice
         ≡ option_map declared_place (declared_twice (map declaration all.now))) }
@@ -35,11 +32,7 @@ pub(crate) fn index_of<'a>(
 }
 
 /// The place that is there, or else the place of a name that is declared again.
-fn first_place<'a>(
-    twice: Option<Place<'a>>,
-    again: bool,
-    d: &Declared<'a>,
-) -> Option<Place<'a>>
+fn first_place<'a>(twice: Option<Place<'a>>, again: bool, d: &Declared<'a>) -> Option<Place<'a>>
     ensures { option_map place result ≡ or_else (option_map place twice.entry)
         (if again then Some (declared_place (declaration d.now)) else None) }
 {

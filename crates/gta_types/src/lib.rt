@@ -8,6 +8,7 @@ mod drafting;
 mod fault;
 mod gathering;
 mod index;
+mod joining;
 mod lists;
 mod names;
 mod naming;

@@ -58,7 +58,7 @@ impl<'a> Names<'a> {
         ensures again { IfOk result (λ again. again ≡ is_some (known_at self.old scope name.now)) }
         ensures added { OnOk result ((s : ℕ) (x : List ℕ) → known_at self.new s x
             ≡ option_or (known_at self.old s x)
-              (if nat_eq s scope && bytes_eq x name.now then Some found else None)) }
+            (if nat_eq s scope && bytes_eq x name.now then Some found else None)) }
     {
         if self.first.contains_key(&(scope, name)) {
             return Ok(true);

@@ -8,4 +8,4 @@ abbrev pub invariant-loop-item : goal.invariant-loop-item
 invariant-loop-item l =
     map declaration l.all.items
     ≡ map declaration l.initial.all.items
-      ++ map (λ item. declare l.line AColumn item.name) (take l.item-index l.items)
+    ++ map (λ item. declare l.line AColumn item.name) (take l.item-index l.items)

@@ -16,17 +16,17 @@ loop-d-preserved c =
     let d = c.d-item.result in
     let lt : i < length xs = omega arith in
     let e : map declaration (take (i + 1) xs) ≡ map declaration (take i xs) ++ declaration d ∷ [] =
-      map_take_next declaration xs i d lt c.d-item.is in
+    map_take_next declaration xs i d lt c.d-item.is in
     let all = map declaration (take i xs) in
     let again = c.in_ok-again.ensures.again in
     let added = c.in_ok-again.ensures.added in
     let known = c.loop-d.invariant.known in
     rw e (record {
       known = index_more c.loop-d.names c.add.new.self all (declaration d) c.scope.result c.bytes.result.now
-        c.found.result known c.scope.ensures c.bytes.ensures c.found.ensures added;
+          c.found.result known c.scope.ensures c.bytes.ensures c.found.ensures added;
       first_twice = c.first_place-twice.ensures
-        ∙ ap (λ (o : Option (ℕ × List ℕ)). or_else o (cond c.in_ok-again.again (Some (declared_place (declaration d))) None))
+          ∙ ap (λ (o : Option (ℕ × List ℕ)). or_else o (cond c.in_ok-again.again (Some (declared_place (declaration d))) None))
           c.loop-d.invariant.first_twice
-        ∙ sym (twice_more c.loop-d.names all (declaration d) c.in_ok-again.again c.scope.result c.bytes.result.now
+          ∙ sym (twice_more c.loop-d.names all (declaration d) c.in_ok-again.again c.scope.result c.bytes.result.now
           known c.scope.ensures c.bytes.ensures again);
     })

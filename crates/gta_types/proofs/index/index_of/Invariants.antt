@@ -8,5 +8,5 @@ invariant-loop-d l =
     record {
       known : IsIndex l.names (map declaration (take l.d-index l.all));
       first_twice : option_map place l.twice
-        ≡ option_map declared_place (declared_twice (map declaration (take l.d-index l.all)));
+          ≡ option_map declared_place (declared_twice (map declaration (take l.d-index l.all)));
     }

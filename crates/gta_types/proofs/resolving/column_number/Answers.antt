@@ -1,4 +1,3 @@
-use Rattle.std.proofs.Common.{◌≡◌, true}
 use Rattle.gta_spec.specs.declared.parts.ColumnItem.{ColumnItem}
 use Rattle.gta_types.proofs.Numbers.{number_at_mapped}
 use Rattle.gta_types.proofs.resolving.column_number.Goals as goal

@@ -1,4 +1,4 @@
-use Rattle.std.proofs.Common.{◌≡◌, take, map, length}
+use Rattle.std.proofs.Common.{◌≡◌, take, map}
 use Rattle.gta_types.specs.Resolved.{number_of}
 use Rattle.gta_types.proofs.resolving.column_number.Given as goal
 

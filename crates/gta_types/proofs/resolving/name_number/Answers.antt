@@ -1,5 +1,3 @@
-use Rattle.std.proofs.Common.{◌≡◌, true}
-use Rattle.std.specs.Str.{bytes_eq}
 use Rattle.gta_types.proofs.Numbers.{number_at}
 use Rattle.gta_types.proofs.resolving.name_number.Goals as goal
 

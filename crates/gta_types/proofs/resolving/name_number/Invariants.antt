@@ -1,4 +1,4 @@
-use Rattle.std.proofs.Common.{◌≡◌, take, length}
+use Rattle.std.proofs.Common.{◌≡◌, take}
 use Rattle.gta_types.specs.Resolved.{number_of}
 use Rattle.gta_types.proofs.resolving.name_number.Given as goal
 

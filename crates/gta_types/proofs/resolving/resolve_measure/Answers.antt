@@ -1,4 +1,4 @@
-use Rattle.std.proofs.Common.{rules, arith}
+use Rattle.std.proofs.Common.{arith}
 use Rattle.gta_spec.specs.Parts.{case_tree}
 use Rattle.gta_spec.specs.WellFormed.{FitsCase}
 use Rattle.gta_types.proofs.Numbers.{each_at}

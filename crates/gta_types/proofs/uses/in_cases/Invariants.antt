@@ -1,4 +1,4 @@
-use Rattle.std.proofs.Common.{◌≡◌, None, [], ◌∷◌, take}
+use Rattle.std.proofs.Common.{◌≡◌, None, take}
 use Rattle.std.specs.List.{flat_map}
 use Rattle.gta_spec.specs.Parts.{case_tree}
 use Rattle.gta_types.specs.Names.{uses_of_case}

@@ -1,9 +1,8 @@
-use Rattle.std.proofs.Common.{refl, sym, map, [], ◌∷◌, ◌++◌}
+use Rattle.std.proofs.Common.{map, [], ◌∷◌, ◌++◌}
 use Rattle.std.specs.List.{flat_map}
 use Rattle.gta_spec.specs.Parts.{pick_tree}
 use Rattle.gta_types.specs.Names.{use_as, uses_of_pick, TableName, ElementOf}
-use Rattle.gta_types.specs.Index.{unknown_in}
-use Rattle.gta_types.proofs.Unknown.{unknown_in-nil, unknown_front, unknown_back}
+use Rattle.gta_types.proofs.Unknown.{unknown_front, unknown_back}
 use Rattle.gta_types.proofs.uses.in_fold.Goals as goal
 
 pub returns-then-is_some : goal.returns-then-is_some

@@ -1,6 +1,5 @@
-use Rattle.std.proofs.Common.{refl, sym, map, [], ◌∷◌, ◌++◌}
-use Rattle.gta_types.specs.Index.{unknown_in}
-use Rattle.gta_types.proofs.Unknown.{unknown_in-nil, unknown_front, unknown_back}
+use Rattle.std.proofs.Common.{sym}
+use Rattle.gta_types.proofs.Unknown.{unknown_in-nil}
 use Rattle.gta_types.proofs.uses.in_part.Goals as goal
 
 pub returns-in-Columns : goal.returns-in-Columns

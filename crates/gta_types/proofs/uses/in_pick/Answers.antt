@@ -1,7 +1,6 @@
-use Rattle.std.proofs.Common.{refl, sym, map, [], ◌∷◌, ◌++◌}
+use Rattle.std.proofs.Common.{map, [], ◌∷◌}
 use Rattle.gta_types.specs.Names.{use_as, use_of_atom, ElementOf}
-use Rattle.gta_types.specs.Index.{unknown_in}
-use Rattle.gta_types.proofs.Unknown.{unknown_in-nil, unknown_front, unknown_back}
+use Rattle.gta_types.proofs.Unknown.{unknown_front, unknown_back}
 use Rattle.gta_types.proofs.uses.in_pick.Goals as goal
 
 pub returns-then-is_some : goal.returns-then-is_some

@@ -1,4 +1,4 @@
-use Rattle.std.proofs.Common.{◌≡◌, ℕ, List, is_some, false, rules, refl, sym, ◌∙◌}
+use Rattle.std.proofs.Common.{sym, ◌∙◌}
 use Rattle.gta_types.specs.Index.{known_at}
 use Rattle.gta_types.proofs.Keys.{kept_at, put_at}
 use Rattle.gta_types.proofs.names.Names.add.Goals as goal

@@ -1,4 +1,4 @@
-use Rattle.std.proofs.Common.{rules, refl}
+use Rattle.std.proofs.Common.{refl}
 use Rattle.gta_types.specs.Index.{known_at}
 use Rattle.gta_types.proofs.names.Names.new.Goals as goal
 
