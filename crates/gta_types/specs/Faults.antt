@@ -49,14 +49,23 @@ fault_of_rule (rules.Limit line limit) = faults.Limit line (limit_word limit)
 abbrev pub unbuilt : List PartTree → Option CheckFault
 unbuilt parts = if list_any (λ part. is_table part.kind) parts then Some faults.Unbuilt else None
 
--- the first fault of a specification, or none: an unknown name, a name declared twice, a broken rule, a table
+-- the first fault of the names: an unknown name, or else a name declared twice
+unfoldable pub name_fault : List PartTree → Option CheckFault
+name_fault parts =
+    or_else (option_map (λ u. faults.Unknown u.line u.name) (unknown_use parts))
+    (option_map (λ d. faults.Twice d.line d.name) (declared_twice (declarations parts)))
+
+-- the first fault of a specification, or none: of its names, a broken rule, a table
 unfoldable pub check_fault : SpecTree → Option CheckFault
 check_fault spec =
-    or_else (option_map (λ u. faults.Unknown u.line u.name) (unknown_use spec.parts))
-    (or_else (option_map (λ d. faults.Twice d.line d.name) (declared_twice (declarations spec.parts)))
-    (or_else (option_map fault_of_rule (rule_fault spec)) (unbuilt spec.parts)))
+    or_else (name_fault spec.parts)
+    (or_else (option_map fault_of_rule (rule_fault spec)) (unbuilt spec.parts))
 
--- an end without a checked specification carries its first fault; want of memory is free
+-- an end that carries this fault; want of memory is free
+abbrev pub IsEndBy : Option CheckFault → CheckFault → Type 0
+IsEndBy fault faults.Memory = Unit {0}
+IsEndBy fault end = fault ≡ Some end
+
+-- an end without a checked specification carries its first fault
 abbrev pub IsFaultOf : SpecTree → CheckFault → Type 0
-IsFaultOf spec faults.Memory = Unit {0}
-IsFaultOf spec fault = check_fault spec ≡ Some fault
+IsFaultOf spec = IsEndBy (check_fault spec)

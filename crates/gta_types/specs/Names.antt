@@ -10,14 +10,16 @@ use Rattle.gta_spec.specs.declared.parts.GoalPart.TheVariants as goals
 use Rattle.gta_spec.specs.Parts.{CaseTree, PickTree, TestTree, Sum, Length, Fold, KindTree, Columns, Labels, Measure, Table}
 use Rattle.gta_spec.specs.Parts.{Times, Test, Aggregate, PartTree}
 use Rattle.spec_rules.specs.SpecRules.{first_answer}
+use Rattle.gta_types.specs.declared.declaring.NameKind.{NameKind}
+use Rattle.gta_types.specs.declared.declaring.NameKind.TheVariants.{AColumn, ALabel, AMeasure, ATable, AnElement}
 
--- what a name is declared as
-pub data NameKind : Type 0 where
-  AColumn : NameKind
-  ALabel : NameKind
-  AMeasure : NameKind
-  ATable : NameKind
-  AnElement : NameKind
+abbrev pub same_kind : NameKind → NameKind → Bool
+same_kind AColumn AColumn = true
+same_kind ALabel ALabel = true
+same_kind AMeasure AMeasure = true
+same_kind ATable ATable = true
+same_kind AnElement AnElement = true
+same_kind _ _ = false
 
 -- a name, what it is declared as, and the line that does so
 pub record Declaration : Type 0 where
@@ -49,12 +51,14 @@ abbrev pub share_names : Declaration → Declaration → Bool
 share_names a b =
     if is_element a.kind then is_element b.kind && nat_eq a.line b.line else not (is_element b.kind)
 
+-- a declaration of a name that is declared before it
+abbrev pub declared_again : List Declaration → Declaration → Option Declaration
+declared_again before d =
+    if list_any (λ e. share_names e d && bytes_eq e.name d.name) before then Some d else None
+
 -- the first name that is declared twice, where it is declared the second time
 abbrev pub declared_twice : List Declaration → Option Declaration
-declared_twice all = first_answer again [] all
-  where
-    again : List Declaration → Declaration → Option Declaration
-    again before d = if list_any (λ e. share_names e d && bytes_eq e.name d.name) before then Some d else None
+declared_twice all = first_answer declared_again [] all
 
 -- the first declaration of a name, elements left out
 abbrev pub declaration_of : List Declaration → List ℕ → Option Declaration
@@ -134,28 +138,16 @@ abbrev pub table_elements : KindTree → List ℕ → Option (List (List ℕ))
 table_elements (Table part) x = if bytes_eq part.name x then Some part.elements else None
 table_elements _ x = None
 
+abbrev pub listed : Option (List (List ℕ)) → List (List ℕ)
+listed None = []
+listed (Some elements) = elements
+
 abbrev pub elements_of : List PartTree → List ℕ → List (List ℕ)
-elements_of parts x = first_elements (first_answer (λ before part. table_elements part.kind x) [] parts)
-  where
-    first_elements : Option (List (List ℕ)) → List (List ℕ)
-    first_elements None = []
-    first_elements (Some elements) = elements
+elements_of parts x = listed (first_answer (λ before part. table_elements part.kind x) [] parts)
 
-abbrev pub is_column : Option NameKind → Bool
-is_column (Some AColumn) = true
-is_column _ = false
-
-abbrev pub is_label : Option NameKind → Bool
-is_label (Some ALabel) = true
-is_label _ = false
-
-abbrev pub is_measure : Option NameKind → Bool
-is_measure (Some AMeasure) = true
-is_measure _ = false
-
-abbrev pub is_table : Option NameKind → Bool
-is_table (Some ATable) = true
-is_table _ = false
+abbrev pub is_of : NameKind → Option NameKind → Bool
+is_of wanted None = false
+is_of wanted (Some kind) = same_kind wanted kind
 
 -- what a name was first declared as, elements left out
 abbrev pub declared_as : List PartTree → List ℕ → Option NameKind
@@ -163,12 +155,12 @@ declared_as parts x = kind_of (declaration_of (declarations parts) x)
 
 -- whether a name is declared for a use
 abbrev pub is_known : List PartTree → Wanted → List ℕ → Bool
-is_known parts Column x = is_column (declared_as parts x)
-is_known parts Label x = is_label (declared_as parts x)
-is_known parts Weight x = is_column (declared_as parts x) || is_measure (declared_as parts x)
-is_known parts TableName x = is_table (declared_as parts x)
+is_known parts Column x = is_of AColumn (declared_as parts x)
+is_known parts Label x = is_of ALabel (declared_as parts x)
+is_known parts Weight x = is_of AColumn (declared_as parts x) || is_of AMeasure (declared_as parts x)
+is_known parts TableName x = is_of ATable (declared_as parts x)
 is_known parts (ElementOf table) x =
-    if is_table (declared_as parts table) then is_one_of (elements_of parts table) x else true
+    if is_of ATable (declared_as parts table) then is_one_of (elements_of parts table) x else true
 is_known parts (OneOf names) x = is_one_of names x
 
 -- the first use of a name that isn't declared for it

@@ -2,7 +2,7 @@
 use Rattle.std.specs.Prelude.{◌≡◌, ℕ, Bool, true, false, ℤ, pos, neg_ℤ, List, [], ◌∷◌, ◌++◌, map, length, Option, Some, None}
 use Rattle.std.specs.Prelude.{option_map}
 use Rattle.std.specs.Str.{bytes_eq}
-use Rattle.std.specs.List.{flat_map, position_or_len, range_with_len}
+use Rattle.std.specs.List.{find, flat_map, position_or_len, range_with_len}
 use Rattle.shape_gen.specs.declared.shape.Shape.{Shape}
 use Rattle.gta_spec.specs.declared.parts.AtomPart.{AtomPart}
 use Rattle.gta_spec.specs.declared.parts.AtomPart.TheVariants as atom_parts
@@ -10,7 +10,7 @@ use Rattle.gta_spec.specs.declared.parts.ColumnItem.{ColumnItem}
 use Rattle.gta_spec.specs.declared.parts.GoalPart.{GoalPart}
 use Rattle.gta_spec.specs.declared.parts.GoalPart.TheVariants as goal_parts
 use Rattle.gta_spec.specs.declared.parts.TermPart.{TermPart}
-use Rattle.gta_spec.specs.Parts.{CaseTree, PickTree, TestTree, Sum, Length, Fold, KindTree, Columns, Labels, Measure, Table}
+use Rattle.gta_spec.specs.Parts.{CaseTree, TableTree, PickTree, TestTree, Sum, Length, Fold, KindTree, Columns, Labels, Measure, Table}
 use Rattle.gta_spec.specs.Parts.{Generate, Test, Aggregate, PartTree, SpecTree}
 use Rattle.gta_checked.specs.declared.resolved.Term.{Term}
 use Rattle.gta_checked.specs.declared.resolved.Atom.{Atom}
@@ -19,7 +19,6 @@ use Rattle.gta_checked.specs.declared.resolved.Goal.{Goal}
 use Rattle.gta_checked.specs.declared.resolved.Goal.TheVariants as goals
 use Rattle.gta_checked.specs.Plain.{PlainCase, PlainPick, PlainTest, PlainChecked}
 use Rattle.gta_checked.specs.Plain as plain
-use Rattle.gta_types.specs.Names.{elements_of}
 
 -- the number of a name among these, from 0
 abbrev pub number_of : List (List ℕ) → List ℕ → ℕ
@@ -37,26 +36,32 @@ abbrev pub measure_names : KindTree → List (List ℕ)
 measure_names (Measure part) = part.name ∷ []
 measure_names _ = []
 
-abbrev pub table_names : KindTree → List (List ℕ)
-table_names (Table part) = part.name ∷ []
-table_names _ = []
+abbrev pub table_parts : KindTree → List TableTree
+table_parts (Table part) = part ∷ []
+table_parts _ = []
 
 -- the declared names of a specification, each kind in its order
 pub record Environment : Type 0 where
-  pub parts : List PartTree
   pub columns : List (List ℕ)
   pub labels : List (List ℕ)
   pub measures : List (List ℕ)
-  pub tables : List (List ℕ)
+  pub tables : List TableTree
 
 abbrev pub environment : List PartTree → Environment
 environment parts = record {
-  parts = parts;
   columns = map (λ item. item.name) (flat_map (λ part. column_items part.kind) parts);
   labels = flat_map (λ part. label_names part.kind) parts;
   measures = flat_map (λ part. measure_names part.kind) parts;
-  tables = flat_map (λ part. table_names part.kind) parts;
+  tables = flat_map (λ part. table_parts part.kind) parts;
 }
+
+abbrev pub elements_listed : Option TableTree → List (List ℕ)
+elements_listed None = []
+elements_listed (Some table) = table.elements
+
+-- the elements of the first table of a name
+abbrev pub elements_in : List TableTree → List ℕ → List (List ℕ)
+elements_in tables x = elements_listed (find (λ table. bytes_eq table.name x) tables)
 
 abbrev pub signed : Bool → ℕ → ℤ
 signed true number = neg_ℤ (pos number)
@@ -94,8 +99,9 @@ abbrev pub resolved_test : Environment → TestTree → PlainTest
 resolved_test env (Sum x check) = plain.Sum (number_of_weight env x) check
 resolved_test env (Length check) = plain.Length check
 resolved_test env (Fold table picks accept) =
-    plain.Fold (number_of env.tables table) (map (resolved_pick env (elements_of env.parts table)) picks)
-    (map (number_of (elements_of env.parts table)) accept)
+    plain.Fold (number_of (map (λ table. table.name) env.tables) table)
+    (map (resolved_pick env (elements_in env.tables table)) picks)
+    (map (number_of (elements_in env.tables table)) accept)
 
 abbrev pub resolved_goal : Environment → GoalPart → Goal
 resolved_goal env goal_parts.Count = goals.Count
@@ -124,14 +130,18 @@ abbrev pub goals_of : Environment → KindTree → List Goal
 goals_of env (Aggregate goal) = resolved_goal env goal ∷ []
 goals_of env _ = []
 
+-- a measure for each column, then the declared measures
+abbrev pub measures_of : List PartTree → List (List PlainCase)
+measures_of parts =
+    map column_measure (range_with_len 0 (length (environment parts).columns))
+    ++ flat_map (λ part. declared_measures (environment parts) part.kind) parts
+
 -- the specification with its names resolved
 pub record IsResolved (spec : SpecTree) (checked : PlainChecked) : Type 0 where
   pub version : checked.version ≡ spec.version
   pub columns : checked.columns ≡ flat_map (λ part. column_items part.kind) spec.parts
   pub labels : checked.labels ≡ (environment spec.parts).labels
-  -- a measure for each column, then the declared measures
-  pub measures : checked.measures ≡ map column_measure (range_with_len 0 (length checked.columns))
-      ++ flat_map (λ part. declared_measures (environment spec.parts) part.kind) spec.parts
+  pub measures : checked.measures ≡ measures_of spec.parts
   pub tests : checked.tests ≡ flat_map (λ part. tests_of (environment spec.parts) part.kind) spec.parts
   pub shape : checked.shape ∷ [] ≡ flat_map (λ part. shapes_of part.kind) spec.parts
   pub goal : checked.goal ∷ [] ≡ flat_map (λ part. goals_of (environment spec.parts) part.kind) spec.parts

@@ -1,15 +1,21 @@
 //! The check of a specification: its faults in their order, and its names resolved to numbers.
 
-ghost use Rattle.std.specs.Prelude.{◌≡◌, None, IfOk, IfErr, OnOk};
-ghost use Rattle.gta_spec.specs.Parts.{spec_tree};
+ghost use Rattle.std.specs.Prelude.{◌≡◌, None, IfOk, IfErr, OnOk, map};
+ghost use Rattle.gta_spec.specs.Parts.{part_tree, spec_tree};
 ghost use Rattle.gta_spec.specs.WellFormed.{IsWellFormed};
+ghost use Rattle.std.specs.List.{list_any};
+ghost use Rattle.spec_rules.specs.SpecRules.{is_table};
 ghost use Rattle.gta_types.specs.Resolved.{IsResolved};
-ghost use Rattle.gta_types.specs.Faults.{check_fault, IsFaultOf};
+ghost use Rattle.gta_types.specs.Faults.{check_fault, IsFaultOf, part_word, limit_word, fault_of_rule};
 
 use crate::fault::CheckFault;
+use crate::joining::resolve;
+use crate::naming::check_names;
 use gta_checked::Checked;
-use gta_spec::Spec;
-use std::alloc::Global;
+use gta_spec::{Part, PartKind, Spec};
+use gta_text::Name;
+use spec_rules::{Limit, RuleFault, SinglePart, rule_fault};
+use std::alloc::{AllocError, Global};
 
 /// The specification with its names resolved to numbers.
 /// Of several faults the first in their order is answered: unknown names, names declared twice, missing parts, second
@@ -20,7 +26,80 @@ pub fn check(alloc: Global, spec: &Spec) -> Result<Checked, CheckFault>
     ensures accepted { OnOk result (check_fault (spec_tree spec.now) ≡ None) }
     ensures refused { IfErr result (IsFaultOf (spec_tree spec.now)) }
 {
-    let _ = alloc;
-    let _ = spec;
-    Err(CheckFault::Memory)
+    if let Err(fault) = check_names(alloc, spec.parts.as_slice()) {
+        return Err(fault);
+    }
+    if let Some(fault) = rule_fault(spec) {
+        return Err(fault_of_rule(alloc, fault)?);
+    }
+    if has_table(spec.parts.as_slice()) {
+        return Err(CheckFault::Unbuilt);
+    }
+    Ok(resolve(alloc, spec)?)
+}
+
+fn has_table(parts: &[Part]) -> bool
+    ensures { result ≡ list_any (λ part. is_table part.kind) (map part_tree parts.now) }
+{
+    for part in parts {
+        if let PartKind::Table(_) = part.kind {
+            return true;
+        }
+    }
+    false
+}
+
+fn part_word(part: SinglePart) -> &'static [u8]
+    ensures { result.now ≡ part_word part }
+{
+    match part {
+        SinglePart::Columns => b"columns",
+        SinglePart::Labels => b"labels",
+        SinglePart::Generate => b"generate",
+        SinglePart::Aggregate => b"aggregate",
+    }
+}
+
+fn limit_word(limit: Limit) -> &'static [u8]
+    ensures { result.now ≡ limit_word limit }
+{
+    match limit {
+        Limit::Name => b"name",
+        Limit::Header => b"header",
+        Limit::Columns => b"columns",
+        Limit::Labels => b"labels",
+        Limit::Measures => b"measures",
+        Limit::Tables => b"tables",
+        Limit::Tests => b"tests",
+        Limit::Elements => b"elements",
+        Limit::Cases => b"cases",
+        Limit::Terms => b"terms",
+        Limit::Atoms => b"atoms",
+        Limit::Factor => b"factor",
+        Limit::Bound => b"bound",
+        Limit::Modulus => b"modulus",
+        Limit::Residue => b"residue",
+        Limit::Kept => b"k",
+    }
+}
+
+/// The fault with the word of its part or limit.
+fn fault_of_rule(alloc: Global, fault: RuleFault) -> Result<CheckFault, AllocError>
+    ensures { IfOk result (λ end. end ≡ fault_of_rule fault) }
+{
+    match fault {
+        RuleFault::Missing { part } => {
+            let part = Name::of(alloc, part_word(part))?;
+            Ok(CheckFault::Missing { part })
+        }
+        RuleFault::SecondPart { line, part } => {
+            let part = Name::of(alloc, part_word(part))?;
+            Ok(CheckFault::SecondPart { line, part })
+        }
+        RuleFault::LabelsAssign { line, assign } => Ok(CheckFault::LabelsAssign { line, assign }),
+        RuleFault::Limit { line, limit } => {
+            let limit = Name::of(alloc, limit_word(limit))?;
+            Ok(CheckFault::Limit { line, limit })
+        }
+    }
 }

@@ -1,6 +1,10 @@
 //! Why a specification is not accepted.
 
+ghost use Rattle.std.specs.Prelude.{◌≡◌};
+ghost use Rattle.gta_types.specs.declared.fault.CheckFault.TheVariants.{Memory};
+
 use gta_text::Name;
+use std::alloc::AllocError;
 
 /// The first fault of a specification. Lines are numbered from 1.
 #[derive(Debug, Drop)]
@@ -21,4 +25,12 @@ pub enum CheckFault {
     Unbuilt,
     /// Memory was wanting.
     Memory,
+}
+
+impl From<AllocError> for CheckFault {
+    ghost from_gives = { λ _ e. e ≡ Memory };
+
+    fn from(_: AllocError) -> CheckFault {
+        CheckFault::Memory
+    }
 }

@@ -3,7 +3,17 @@
 #![tactic(auto)]
 
 mod checking;
+mod declaring;
+mod drafting;
 mod fault;
+mod gathering;
+mod index;
+mod joining;
+mod lists;
+mod names;
+mod naming;
+mod resolving;
+mod uses;
 
 pub use checking::check;
 pub use fault::CheckFault;

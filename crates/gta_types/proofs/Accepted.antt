@@ -1,0 +1,283 @@
+-- A specification without a fault is within the limits once its names are resolved.
+use Rattle.std.proofs.Common.{◌≡◌, ℕ, ◌+◌, ◌<◌, ◌≤◌, Bool, true, false, ◌&&◌, ◌||◌, nat_lt, leb, List, [], ◌∷◌, ◌++◌, map, filter, length, get_or, Some, All, cond, refl, sym, ap, ◌∙◌, inl, inr, arith}
+use Rattle.std.specs.List.{find, list_any, flat_map, range_with_len}
+use Rattle.std.proofs.lemmas.List.{length-map, length-append}
+use Rattle.std.proofs.lemmas.List.FromFn.{length-range_with_len, get_or-range_with_len}
+use Rattle.std.proofs.lemmas.List.Elements.{All-nil, All-cons, All-append, All-map}
+use Rattle.std.proofs.lemmas.List.Folds.{find-append}
+use Rattle.std.proofs.lemmas.Bool.{false≢true, ltb-false, not-false}
+use Rattle.std.proofs.lemmas.Option.{none-some, same_Some}
+use Rattle.gta_spec.specs.declared.limits.TheConstants.{CASE_LIMIT, MEASURE_LIMIT, TEST_LIMIT, KEEP_LIMIT}
+use Rattle.gta_spec.specs.declared.parts.GoalPart.{GoalPart}
+use Rattle.gta_spec.specs.declared.parts.GoalPart.TheVariants as goals
+use Rattle.gta_spec.specs.declared.parts.ColumnItem.{ColumnItem}
+use Rattle.gta_spec.specs.Parts.{Sum, Length, Fold, KindTree, Columns, Labels, Measure, Table, Times, Generate, Test, Aggregate, PartTree}
+use Rattle.gta_spec.specs.WellFormed.{EachFits, FitsKind, FitParts}
+use Rattle.gta_checked.specs.Within.{IsTermWithin, IsAtomWithin, IsCaseWithin, IsMeasureWithin, IsTestWithin, IsGoalWithin}
+use Rattle.spec_rules.specs.declared.fault.Limit.TheVariants as limits
+use Rattle.spec_rules.specs.SpecRules.{is_table, is_measure, is_test, earlier}
+use Rattle.gta_types.specs.declared.declaring.NameKind.TheVariants.{AColumn, ALabel, AMeasure, ATable}
+use Rattle.gta_types.specs.Names.{Declaration, declarations_of, declarations, declaration_of, declared_as, is_of, same_kind, Weight, use_as, uses_of, uses}
+use Rattle.gta_types.specs.Resolved.{number_of_weight, column_items, measure_names, environment, resolved_case, resolved_goal, column_measure, declared_measures, tests_of, measures_of}
+use Rattle.gta_types.specs.Ready.{is_fold}
+use Rattle.gta_types.proofs.Looked.{called, option_cases, line_of_map, kind_differs}
+use Rattle.gta_types.proofs.Rules.{Kept, AllKept, few_lines, length_lines}
+use Rattle.gta_types.proofs.InRange.{weight_in}
+use Rattle.gta_types.proofs.Within.{Known, column_count, label_count, each_front, each_back, or_false_parts, cases_within, check_within}
+
+-- no line is a table, so no name is declared as one
+no_table_here : (p : Declaration → Bool) (line : ℕ) (kind : KindTree) (d : Declaration) → is_table kind ≡ false
+    → find p (declarations_of line kind) ≡ Some d → same_kind ATable d.kind ≡ true → ⊥
+no_table_here p line (Columns items) d none e same =
+    kind_differs AColumn d.kind (line_of_map p line AColumn (λ (item : ColumnItem). item.name) items d e).1 refl same
+no_table_here p line (Labels xs) d none e same =
+    kind_differs ALabel d.kind (line_of_map p line ALabel (λ (x : List ℕ). x) xs d e).1 refl same
+no_table_here p line (Measure part) d none e same =
+    kind_differs AMeasure d.kind (line_of_map p line AMeasure (λ (x : List ℕ). x) (part.name ∷ []) d e).1 refl same
+no_table_here p line (Table part) d none e same = false≢true (sym none)
+no_table_here p line (Times part) d none e same = none-some d e
+no_table_here p line (Generate shape) d none e same = none-some d e
+no_table_here p line (Test test) d none e same = none-some d e
+no_table_here p line (Aggregate goal) d none e same = none-some d e
+
+no_table : (p : Declaration → Bool) (parts : List PartTree) (d : Declaration)
+    → list_any (λ (part : PartTree). is_table part.kind) parts ≡ false → find p (declarations parts) ≡ Some d
+    → same_kind ATable d.kind ≡ true → ⊥
+no_table p [] d none e same = none-some d e
+no_table p (part ∷ parts) d none e same =
+    let n = or_false_parts (is_table part.kind) (list_any (λ (part : PartTree). is_table part.kind) parts) none in
+    let ds = declarations_of part.line part.kind in
+    let joined = sym (find-append p ds (declarations parts)) ∙ e in
+    elim (option_cases (find p ds)) [
+      | inl here ↦ no_table p parts d n.1 (rw here at joined) same
+      | inr here ↦ (let found = same_Some _ _ (rw here.1 at joined) in
+          no_table_here p part.line part.kind d n.0 (here.1 ∙ ap Some found) same)
+    ]
+
+module _ (all : List PartTree) (none : list_any (λ (part : PartTree). is_table part.kind) all ≡ false) where
+  no_table_known : (x : List ℕ) → is_of ATable (declared_as all x) ≡ true → ⊥
+  no_table_known x known =
+      elim (option_cases (declaration_of (declarations all) x)) [
+        | inl here ↦ (let h : false ≡ true = rw here at known in false≢true h)
+        | inr here ↦ no_table (called x) all here.0 none here.1 (rw here.1 at known)
+      ]
+
+  not_fold : (line : ℕ) (kind : KindTree) → EachFits (Known all) (uses_of line kind) → is_fold kind ≡ false
+  not_fold line (Columns items) known = refl
+  not_fold line (Labels xs) known = refl
+  not_fold line (Measure part) known = refl
+  not_fold line (Table part) known = refl
+  not_fold line (Times part) known = refl
+  not_fold line (Generate shape) known = refl
+  not_fold line (Test (Sum x check)) known = refl
+  not_fold line (Test (Length check)) known = refl
+  not_fold line (Test (Fold table picks accept)) known = absurd (no_table_known table (not-false _ known.0))
+  not_fold line (Aggregate goal) known = refl
+
+-- what is known of each line
+pub record LineFacts (all : List PartTree) (line : ℕ) (kind : KindTree) : Type 0 where
+  pub count : ℕ
+  pub fits : FitsKind kind
+  pub kept : Kept count kind
+  pub known : EachFits (Known all) (uses_of line kind)
+  pub no_fold : is_fold kind ≡ false
+
+pub line_facts : (all : List PartTree) → list_any (λ (part : PartTree). is_table part.kind) all ≡ false
+    → (low : ℕ) (before parts : List PartTree) → FitParts low parts → AllKept before parts
+    → EachFits (Known all) (uses parts) → EachFits (λ (part : PartTree). LineFacts all part.line part.kind) parts
+line_facts all none low before [] fits kept known = tt
+line_facts all none low before (part ∷ parts) fits kept known =
+    let here = each_front (Known all) (uses_of part.line part.kind) (uses parts) known in (
+      record {
+        count = earlier before part.kind;
+        fits = fits.1;
+        kept = kept.0;
+        known = here;
+        no_fold = not_fold all none part.line part.kind here;
+      },
+      line_facts all none (part.line + 1) (before ++ part ∷ []) parts fits.2 kept.1
+          (each_back (Known all) (uses_of part.line part.kind) (uses parts) known),
+    )
+
+measure_pick : (before : List PartTree) (kind : KindTree) → Kept (earlier before kind) kind
+    → (is_measure kind && leb MEASURE_LIMIT (length (filter (λ line. is_measure line.kind) before))) ≡ false
+measure_pick before (Columns items) kept = refl
+measure_pick before (Labels xs) kept = refl
+measure_pick before (Measure part) kept = kept limits.Measures
+measure_pick before (Table part) kept = refl
+measure_pick before (Times part) kept = refl
+measure_pick before (Generate shape) kept = refl
+measure_pick before (Test test) kept = refl
+measure_pick before (Aggregate goal) kept = refl
+
+test_pick : (before : List PartTree) (kind : KindTree) → Kept (earlier before kind) kind
+    → (is_test kind && leb TEST_LIMIT (length (filter (λ line. is_test line.kind) before))) ≡ false
+test_pick before (Columns items) kept = refl
+test_pick before (Labels xs) kept = refl
+test_pick before (Measure part) kept = refl
+test_pick before (Table part) kept = refl
+test_pick before (Times part) kept = refl
+test_pick before (Generate shape) kept = refl
+test_pick before (Test test) kept = kept limits.Tests
+test_pick before (Aggregate goal) kept = refl
+
+one_measure_name : (kind : KindTree) → length (measure_names kind) ≡ cond (is_measure kind) 1 0
+one_measure_name (Columns items) = refl
+one_measure_name (Labels xs) = refl
+one_measure_name (Measure part) = refl
+one_measure_name (Table part) = refl
+one_measure_name (Times part) = refl
+one_measure_name (Generate shape) = refl
+one_measure_name (Test test) = refl
+one_measure_name (Aggregate goal) = refl
+
+one_measure : (all : List PartTree) (kind : KindTree) → length (declared_measures (environment all) kind) ≡ cond (is_measure kind) 1 0
+one_measure all (Columns items) = refl
+one_measure all (Labels xs) = refl
+one_measure all (Measure part) = refl
+one_measure all (Table part) = refl
+one_measure all (Times part) = refl
+one_measure all (Generate shape) = refl
+one_measure all (Test test) = refl
+one_measure all (Aggregate goal) = refl
+
+one_test : (all : List PartTree) (kind : KindTree) → length (tests_of (environment all) kind) ≡ cond (is_test kind) 1 0
+one_test all (Columns items) = refl
+one_test all (Labels xs) = refl
+one_test all (Measure part) = refl
+one_test all (Table part) = refl
+one_test all (Times part) = refl
+one_test all (Generate shape) = refl
+one_test all (Test test) = refl
+one_test all (Aggregate goal) = refl
+
+pub few_measure_names : (all : List PartTree) → AllKept [] all → length (environment all).measures ≤ MEASURE_LIMIT
+few_measure_names all kept =
+    let few = few_lines is_measure MEASURE_LIMIT measure_pick all kept in
+    let len = length_lines is_measure MEASURE_LIMIT measure_pick measure_names one_measure_name all in
+    omega (arith, few, len)
+
+pub few_tests : (all : List PartTree) → AllKept [] all
+    → length (flat_map (λ (part : PartTree). tests_of (environment all) part.kind) all) ≤ TEST_LIMIT
+few_tests all kept =
+    let few = few_lines is_test TEST_LIMIT test_pick all kept in
+    let len = length_lines is_test TEST_LIMIT test_pick (tests_of (environment all)) (one_test all) all in
+    omega (arith, few, len)
+
+pub measures_length : (all : List PartTree)
+    → length (measures_of all) ≡ length (environment all).columns + length (environment all).measures
+measures_length all =
+    let columns = map column_measure (range_with_len 0 (length (environment all).columns)) in
+    let declared = flat_map (λ (part : PartTree). declared_measures (environment all) part.kind) all in
+    let a : length (measures_of all) ≡ length columns + length declared = length-append columns declared in
+    let b : length columns ≡ length (environment all).columns =
+    length-map (range_with_len 0 (length (environment all).columns)) column_measure
+    ∙ length-range_with_len 0 (length (environment all).columns) in
+    let c = length_lines is_measure MEASURE_LIMIT measure_pick (declared_measures (environment all)) (one_measure all) all in
+    let d = length_lines is_measure MEASURE_LIMIT measure_pick measure_names one_measure_name all in
+    omega (arith, a, b, c, d)
+
+weight_within : (all : List PartTree) (line : ℕ) (x : List ℕ) → Known all (use_as line Weight x)
+    → number_of_weight (environment all) x < length (measures_of all)
+weight_within all line x known =
+    let within = weight_in all x (not-false _ known) in
+    let len = length-append (environment all).columns (environment all).measures in
+    let m = measures_length all in omega (arith, within, len, m)
+
+measures_of_line : (all : List PartTree) (line : ℕ) (kind : KindTree) → LineFacts all line kind
+    → All (IsMeasureWithin (column_count all) (label_count all)) (declared_measures (environment all) kind)
+measures_of_line all line (Columns items) facts = All-nil (IsMeasureWithin (column_count all) (label_count all))
+measures_of_line all line (Labels xs) facts = All-nil (IsMeasureWithin (column_count all) (label_count all))
+measures_of_line all line (Measure part) facts =
+    All-cons (IsMeasureWithin (column_count all) (label_count all)) (map (resolved_case (environment all)) part.cases) [] (
+      (let l = length-map part.cases (resolved_case (environment all)) in
+          let few = ltb-false CASE_LIMIT (length part.cases) (facts.kept limits.Cases) in omega arith),
+      cases_within all line part.cases facts.fits.1.1 (facts.kept limits.Terms) (facts.kept limits.Atoms)
+          (facts.kept limits.Factor) facts.known,
+    )
+    (All-nil (IsMeasureWithin (column_count all) (label_count all)))
+measures_of_line all line (Table part) facts = All-nil (IsMeasureWithin (column_count all) (label_count all))
+measures_of_line all line (Times part) facts = All-nil (IsMeasureWithin (column_count all) (label_count all))
+measures_of_line all line (Generate shape) facts = All-nil (IsMeasureWithin (column_count all) (label_count all))
+measures_of_line all line (Test test) facts = All-nil (IsMeasureWithin (column_count all) (label_count all))
+measures_of_line all line (Aggregate goal) facts = All-nil (IsMeasureWithin (column_count all) (label_count all))
+
+one_check : (b : Bool) → (b || false) ≡ false → b ≡ false
+one_check true h = h
+one_check false h = refl
+
+tests_of_line : (all : List PartTree) (line : ℕ) (kind : KindTree) → LineFacts all line kind
+    → All (IsTestWithin (column_count all) (label_count all) (length (measures_of all))) (tests_of (environment all) kind)
+tests_of_line all line (Columns items) facts = All-nil (IsTestWithin (column_count all) (label_count all) (length (measures_of all)))
+tests_of_line all line (Labels xs) facts = All-nil (IsTestWithin (column_count all) (label_count all) (length (measures_of all)))
+tests_of_line all line (Measure part) facts = All-nil (IsTestWithin (column_count all) (label_count all) (length (measures_of all)))
+tests_of_line all line (Table part) facts = All-nil (IsTestWithin (column_count all) (label_count all) (length (measures_of all)))
+tests_of_line all line (Times part) facts = All-nil (IsTestWithin (column_count all) (label_count all) (length (measures_of all)))
+tests_of_line all line (Generate shape) facts = All-nil (IsTestWithin (column_count all) (label_count all) (length (measures_of all)))
+tests_of_line all line (Test (Sum x check)) facts =
+    All-cons (IsTestWithin (column_count all) (label_count all) (length (measures_of all))) _ [] (
+      weight_within all line x facts.known.0,
+      check_within check (one_check _ (facts.kept limits.Bound)) (one_check _ (facts.kept limits.Modulus))
+          (one_check _ (facts.kept limits.Residue)),
+    )
+    (All-nil (IsTestWithin (column_count all) (label_count all) (length (measures_of all))))
+tests_of_line all line (Test (Length check)) facts =
+    All-cons (IsTestWithin (column_count all) (label_count all) (length (measures_of all))) _ []
+    (check_within check (one_check _ (facts.kept limits.Bound)) (one_check _ (facts.kept limits.Modulus))
+    (one_check _ (facts.kept limits.Residue)))
+    (All-nil (IsTestWithin (column_count all) (label_count all) (length (measures_of all))))
+tests_of_line all line (Test (Fold table picks accept)) facts = absurd (false≢true (sym facts.no_fold))
+tests_of_line all line (Aggregate goal) facts = All-nil (IsTestWithin (column_count all) (label_count all) (length (measures_of all)))
+
+pub goal_of_line : (all : List PartTree) (line : ℕ) (goal : GoalPart) → LineFacts all line (Aggregate goal)
+    → IsGoalWithin (length (measures_of all)) (resolved_goal (environment all) goal)
+goal_of_line all line goals.Count facts = tt
+goal_of_line all line goals.Any facts = tt
+goal_of_line all line (goals.Max x) facts = weight_within all line x facts.known.0
+goal_of_line all line (goals.Min x) facts = weight_within all line x facts.known.0
+goal_of_line all line (goals.Best k greatest x) facts =
+    let h = or_false_parts (nat_lt k 1) (nat_lt KEEP_LIMIT k) (facts.kept limits.Kept) in
+    let low = ltb-false k 1 h.0 in let high = ltb-false KEEP_LIMIT k h.1 in
+    (low, high, weight_within all line x facts.known.0)
+
+all_flat : {B : Type 0} (P : B → Type 0) (Q : PartTree → Type 0) (g : PartTree → List B)
+    → ((part : PartTree) → Q part → All P (g part)) → (parts : List PartTree) → EachFits Q parts → All P (flat_map g parts)
+all_flat P Q g each [] fits = All-nil P
+all_flat P Q g each (part ∷ parts) fits =
+    All-append P (g part) (flat_map g parts) (each part fits.0) (all_flat P Q g each parts fits.1)
+
+column_measure_within : (columns labels column : ℕ) → column < columns → IsMeasureWithin columns labels (column_measure column)
+column_measure_within columns labels column below = (
+  omega arith,
+  All-cons (IsCaseWithin columns labels) _ []
+      (record {
+        few_terms = omega arith;
+        terms = All-cons (IsTermWithin columns) _ [] (below, omega arith) (All-nil (IsTermWithin columns));
+        condition = (omega arith, All-nil (IsAtomWithin columns labels));
+      })
+      (All-nil (IsCaseWithin columns labels)),
+)
+
+pub all_measures : (all : List PartTree) → EachFits (λ (part : PartTree). LineFacts all part.line part.kind) all
+    → All (IsMeasureWithin (column_count all) (label_count all)) (measures_of all)
+all_measures all facts =
+    let n = length (environment all).columns in
+    let P = IsMeasureWithin (column_count all) (label_count all) in
+    let same : n ≡ column_count all = length-map (flat_map (λ (part : PartTree). column_items part.kind) all) (λ item. item.name) in
+    All-append P (map column_measure (range_with_len 0 n)) (flat_map (λ (part : PartTree). declared_measures (environment all) part.kind) all)
+    (All-map P column_measure (range_with_len 0 n) (λ k d lt.
+    let l = length-range_with_len 0 n in
+    let below : k < n = omega (arith, lt, l) in
+    let at = get_or-range_with_len 0 n k d below in
+    column_measure_within (column_count all) (label_count all) (get_or (range_with_len 0 n) k d) (omega (arith, at, same, below))))
+    (all_flat P (λ (part : PartTree). LineFacts all part.line part.kind)
+    (λ (part : PartTree). declared_measures (environment all) part.kind)
+    (λ part facts. measures_of_line all part.line part.kind facts) all facts)
+
+pub all_tests : (all : List PartTree) → EachFits (λ (part : PartTree). LineFacts all part.line part.kind) all
+    → All (IsTestWithin (column_count all) (label_count all) (length (measures_of all)))
+    (flat_map (λ (part : PartTree). tests_of (environment all) part.kind) all)
+all_tests all facts =
+    all_flat (IsTestWithin (column_count all) (label_count all) (length (measures_of all)))
+    (λ (part : PartTree). LineFacts all part.line part.kind) (λ (part : PartTree). tests_of (environment all) part.kind)
+    (λ part facts. tests_of_line all part.line part.kind facts) all facts

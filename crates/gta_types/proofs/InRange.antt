@@ -1,0 +1,164 @@
+-- The number of a name that is declared for its use is in range.
+use Rattle.std.proofs.Common.{◌≡◌, ℕ, ◌<◌, Bool, true, false, ◌&&◌, ◌||◌, not, List, [], ◌∷◌, ◌++◌, map, length, Some, cond, refl, sym, ap, ◌∙◌, inl, inr, subst, arith}
+use Rattle.std.specs.Option.{option_or}
+use Rattle.std.specs.List.{find, flat_map}
+use Rattle.std.specs.Str.{bytes_eq}
+use Rattle.std.proofs.lemmas.List.{map-append, length-append}
+use Rattle.std.proofs.lemmas.List.Folds.{find-append}
+use Rattle.std.proofs.lemmas.Bool.{false≢true, cases_Bool, cases_lt, or_cases}
+use Rattle.std.proofs.lemmas.Option.{none-some, same_Some}
+use Rattle.gta_spec.specs.declared.parts.ColumnItem.{ColumnItem}
+use Rattle.gta_spec.specs.Parts.{KindTree, Columns, Labels, Measure, Table, Times, Generate, Test, Aggregate, PartTree}
+use Rattle.gta_types.specs.declared.declaring.NameKind.{NameKind}
+use Rattle.gta_types.specs.declared.declaring.NameKind.TheVariants.{AColumn, ALabel, AMeasure, ATable, AnElement}
+use Rattle.gta_types.specs.Names.{Declaration, declare, declarations_of, declarations, declaration_of, declared_as, is_element, is_of, same_kind}
+use Rattle.gta_types.specs.Resolved.{number_of, column_items, label_names, measure_names, environment}
+use Rattle.gta_types.proofs.Looked.{called, option_cases, line_of_map}
+use Rattle.gta_types.proofs.Numbers.{number_of-append-past, number_of-append-within}
+
+-- the number of x is one of these names
+abbrev pub IsIn : List ℕ → List (List ℕ) → Type 0
+IsIn x names = number_of names x < length names
+
+pub in_front : (xs ys : List (List ℕ)) (x : List ℕ) → IsIn x xs → IsIn x (xs ++ ys)
+in_front xs ys x within =
+    let e = number_of-append-within xs ys x within in
+    let l = length-append xs ys in omega arith
+
+pub in_back : (xs ys : List (List ℕ)) (x : List ℕ) → IsIn x ys → IsIn x (xs ++ ys)
+in_back xs ys x within =
+    let l = length-append xs ys in
+    elim (cases_lt (number_of xs x) (length xs)) [
+      | inl h ↦ in_front xs ys x h
+      | inr h ↦ (let e = number_of-append-past xs ys x h in omega arith)
+    ]
+
+module _ (K : NameKind) (g : KindTree → List (List ℕ)) (x : List ℕ)
+    (here : (line : ℕ) (kind : KindTree) (d : Declaration) → find (called x) (declarations_of line kind) ≡ Some d
+    → same_kind K d.kind ≡ true → IsIn x (g kind)) where
+  found_in : (parts : List PartTree) (d : Declaration) → find (called x) (declarations parts) ≡ Some d
+      → same_kind K d.kind ≡ true → IsIn x (flat_map (λ (part : PartTree). g part.kind) parts)
+  found_in [] d e same = absurd (none-some d e)
+  found_in (part ∷ parts) d e same =
+      let ds = declarations_of part.line part.kind in
+      let joined : option_or (find (called x) ds) (find (called x) (declarations parts)) ≡ Some d =
+      sym (find-append (called x) ds (declarations parts)) ∙ e in
+      let rest = flat_map (λ (part : PartTree). g part.kind) parts in
+      elim (option_cases (find (called x) ds)) [
+        | inl none ↦ in_back (g part.kind) rest x (found_in parts d (rw none at joined) same)
+        | inr some ↦ (let found : some.0 ≡ d = same_Some _ _ (rw some.1 at joined) in
+            in_front (g part.kind) rest x (here part.line part.kind d (some.1 ∙ ap Some found) same))
+      ]
+
+  pub declared_in : (parts : List PartTree) → is_of K (declared_as parts x) ≡ true
+      → IsIn x (flat_map (λ (part : PartTree). g part.kind) parts)
+  declared_in parts known =
+      elim (option_cases (declaration_of (declarations parts) x)) [
+        | inl none ↦ (let h : false ≡ true = rw none at known in absurd (false≢true h))
+        | inr some ↦ found_in parts some.0 some.1 (rw some.1 at known)
+      ]
+
+named_in : {A : Type 0} (line : ℕ) (kind : NameKind) (f : A → List ℕ) (x : List ℕ) (xs : List A) (d : Declaration)
+    → find (called x) (map (λ a. declare line kind (f a)) xs) ≡ Some d → IsIn x (map f xs)
+named_in line kind f x [] d e = absurd (none-some d e)
+named_in line kind f x (a ∷ xs) d e =
+    elim (cases_Bool (bytes_eq (f a) x)) [
+      | inl h ↦ rw h (omega arith)
+      | inr h ↦ (let none : (not (is_element kind) && bytes_eq (f a) x) ≡ false = rw h (and_false (not (is_element kind))) in
+          let rest = named_in line kind f x xs d (rw none at e) in rw h (omega arith))
+    ]
+  where
+    and_false : (b : Bool) → (b && false) ≡ false
+    and_false true = refl
+    and_false false = refl
+
+map_same : {A : Type 0} (xs : List A) → map (λ x. x) xs ≡ xs
+map_same [] = refl
+map_same (x ∷ xs) = ap (λ (ys : List _). x ∷ ys) (map_same xs)
+
+other_kind : (K k d : NameKind) → d ≡ k → same_kind K k ≡ false → same_kind K d ≡ true → ⊥
+other_kind K k d e differs same = false≢true (sym differs ∙ ap (same_kind K) (sym e) ∙ same)
+
+-- a declaration of a table line is of the table or of an element
+table_line : (p : Declaration → Bool) (K : NameKind) (line : ℕ) (name : List ℕ) (elements : List (List ℕ)) (d : Declaration)
+    → find p (declare line ATable name ∷ map (declare line AnElement) elements) ≡ Some d
+    → same_kind K ATable ≡ false → same_kind K AnElement ≡ false → same_kind K d.kind ≡ true → ⊥
+table_line p K line name elements d e no_table no_element same =
+    elim (p (declare line ATable name)) as (λ b. cond b (Some (declare line ATable name)) (find p (map (declare line AnElement) elements)) ≡ Some d → ⊥) [
+      | true ↦ (λ h. other_kind K ATable d.kind (ap (λ (x : Declaration). x.kind) (sym (same_Some _ _ h))) no_table same)
+      | false ↦ (λ h. other_kind K AnElement d.kind (line_of_map p line AnElement (λ (x : List ℕ). x) elements d h).1 no_element same)
+    ] e
+
+column_here : (x : List ℕ) (line : ℕ) (kind : KindTree) (d : Declaration)
+    → find (called x) (declarations_of line kind) ≡ Some d → same_kind AColumn d.kind ≡ true
+    → IsIn x (map (λ (item : ColumnItem). item.name) (column_items kind))
+column_here x line (Columns items) d e same = named_in line AColumn (λ (item : ColumnItem). item.name) x items d e
+column_here x line (Labels xs) d e same =
+    absurd (other_kind AColumn ALabel d.kind (line_of_map (called x) line ALabel (λ (x : List ℕ). x) xs d e).1 refl same)
+column_here x line (Measure part) d e same =
+    absurd (other_kind AColumn AMeasure d.kind
+    (line_of_map (called x) line AMeasure (λ (x : List ℕ). x) (part.name ∷ []) d e).1 refl same)
+column_here x line (Table part) d e same =
+    absurd (table_line (called x) AColumn line part.name part.elements d e refl refl same)
+column_here x line (Times part) d e same = absurd (none-some d e)
+column_here x line (Generate shape) d e same = absurd (none-some d e)
+column_here x line (Test test) d e same = absurd (none-some d e)
+column_here x line (Aggregate goal) d e same = absurd (none-some d e)
+
+label_here : (x : List ℕ) (line : ℕ) (kind : KindTree) (d : Declaration)
+    → find (called x) (declarations_of line kind) ≡ Some d → same_kind ALabel d.kind ≡ true → IsIn x (label_names kind)
+label_here x line (Columns items) d e same =
+    absurd (other_kind ALabel AColumn d.kind
+    (line_of_map (called x) line AColumn (λ (item : ColumnItem). item.name) items d e).1 refl same)
+label_here x line (Labels xs) d e same =
+    subst (IsIn x) (map_same xs) (named_in line ALabel (λ (x : List ℕ). x) x xs d e)
+label_here x line (Measure part) d e same =
+    absurd (other_kind ALabel AMeasure d.kind
+    (line_of_map (called x) line AMeasure (λ (x : List ℕ). x) (part.name ∷ []) d e).1 refl same)
+label_here x line (Table part) d e same =
+    absurd (table_line (called x) ALabel line part.name part.elements d e refl refl same)
+label_here x line (Times part) d e same = absurd (none-some d e)
+label_here x line (Generate shape) d e same = absurd (none-some d e)
+label_here x line (Test test) d e same = absurd (none-some d e)
+label_here x line (Aggregate goal) d e same = absurd (none-some d e)
+
+measure_here : (x : List ℕ) (line : ℕ) (kind : KindTree) (d : Declaration)
+    → find (called x) (declarations_of line kind) ≡ Some d → same_kind AMeasure d.kind ≡ true → IsIn x (measure_names kind)
+measure_here x line (Columns items) d e same =
+    absurd (other_kind AMeasure AColumn d.kind
+    (line_of_map (called x) line AColumn (λ (item : ColumnItem). item.name) items d e).1 refl same)
+measure_here x line (Labels xs) d e same =
+    absurd (other_kind AMeasure ALabel d.kind (line_of_map (called x) line ALabel (λ (x : List ℕ). x) xs d e).1 refl same)
+measure_here x line (Measure part) d e same =
+    named_in line AMeasure (λ (x : List ℕ). x) x (part.name ∷ []) d e
+measure_here x line (Table part) d e same =
+    absurd (table_line (called x) AMeasure line part.name part.elements d e refl refl same)
+measure_here x line (Times part) d e same = absurd (none-some d e)
+measure_here x line (Generate shape) d e same = absurd (none-some d e)
+measure_here x line (Test test) d e same = absurd (none-some d e)
+measure_here x line (Aggregate goal) d e same = absurd (none-some d e)
+
+map-flat_map : {A B C : Type 0} (h : B → C) (f : A → List B) (xs : List A)
+    → map h (flat_map f xs) ≡ flat_map (λ x. map h (f x)) xs
+map-flat_map h f [] = refl
+map-flat_map h f (x ∷ xs) = map-append h (f x) (flat_map f xs) ∙ ap (λ (ys : List _). map h (f x) ++ ys) (map-flat_map h f xs)
+
+pub column_in : (parts : List PartTree) (x : List ℕ) → is_of AColumn (declared_as parts x) ≡ true
+    → IsIn x (environment parts).columns
+column_in parts x known =
+    subst (IsIn x) (sym (map-flat_map (λ (item : ColumnItem). item.name) (λ (part : PartTree). column_items part.kind) parts))
+    (declared_in AColumn (λ kind. map (λ (item : ColumnItem). item.name) (column_items kind)) x (column_here x) parts known)
+
+pub label_in : (parts : List PartTree) (x : List ℕ) → is_of ALabel (declared_as parts x) ≡ true
+    → IsIn x (environment parts).labels
+label_in parts x known = declared_in ALabel label_names x (label_here x) parts known
+
+pub weight_in : (parts : List PartTree) (x : List ℕ)
+    → (is_of AColumn (declared_as parts x) || is_of AMeasure (declared_as parts x)) ≡ true
+    → IsIn x ((environment parts).columns ++ (environment parts).measures)
+weight_in parts x known =
+    elim (or_cases _ _ known) [
+      | inl h ↦ in_front (environment parts).columns (environment parts).measures x (column_in parts x h)
+      | inr h ↦ in_back (environment parts).columns (environment parts).measures x
+          (declared_in AMeasure measure_names x (measure_here x) parts h)
+    ]

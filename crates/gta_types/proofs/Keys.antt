@@ -1,0 +1,83 @@
+-- Names in scopes: when two are the same, and what an index has after one more. Of any lists.
+use Rattle.std.proofs.Common.{◌≡◌, ℕ, Bool, true, false, ◌&&◌, nat_eq, List, Option, Some, None, is_some, cond, refl, sym, ◌∙◌, inl, inr, ◌⊎◌}
+use Rattle.std.specs.Option.{option_or}
+use Rattle.std.specs.Str.{bytes_eq}
+use Rattle.std.proofs.lemmas.Bool.{and_parts, eqb-true, eq-eqb, false≢true}
+use Rattle.std.proofs.lemmas.Slice.Eq.{bytes_eq-Decides}
+
+abbrev pub same_key : ℕ → List ℕ → ℕ → List ℕ → Bool
+same_key s x t y = nat_eq s t && bytes_eq x y
+
+pub same_key_parts : (s : ℕ) (x : List ℕ) (t : ℕ) (y : List ℕ) → same_key s x t y ≡ true → (s ≡ t) × (x ≡ y)
+same_key_parts s x t y h =
+    let p = and_parts (nat_eq s t) (bytes_eq x y) h in (eqb-true s t p.0, (bytes_eq-Decides x y).0 p.1)
+
+pub same_key_here : (s : ℕ) (x : List ℕ) → same_key s x s x ≡ true
+same_key_here s x =
+    let n : nat_eq s s ≡ true = eq-eqb s s refl in
+    let b : bytes_eq x x ≡ true = (bytes_eq-Decides x x).1 refl in
+    rw n b
+
+bool_cases : (b : Bool) → (b ≡ true) ⊎ (b ≡ false)
+bool_cases true = inl refl
+bool_cases false = inr refl
+
+pub key_cases : (s : ℕ) (x : List ℕ) (t : ℕ) (y : List ℕ)
+    → ((same_key s x t y ≡ true) × (s ≡ t) × (x ≡ y)) ⊎ (same_key s x t y ≡ false)
+key_cases s x t y =
+    elim (bool_cases (same_key s x t y)) [
+      | inl h ↦ (let p = same_key_parts s x t y h in inl (h, p.0, p.1))
+      | inr h ↦ inr h
+    ]
+
+true_of_parts : (s : ℕ) (x : List ℕ) (t : ℕ) (y : List ℕ) → s ≡ t → x ≡ y → same_key s x t y ≡ true
+true_of_parts s x t y n b = rw (n, b) (same_key_here t y)
+
+pub same_key_swap : (s : ℕ) (x : List ℕ) (t : ℕ) (y : List ℕ) → same_key s x t y ≡ same_key t y s x
+same_key_swap s x t y =
+    elim (key_cases s x t y) [
+      | inl h ↦ h.0 ∙ sym (true_of_parts t y s x (sym h.1) (sym h.2))
+      | inr h ↦ elim (key_cases t y s x) [
+        | inl k ↦ absurd (false≢true (sym h ∙ true_of_parts s x t y (sym k.1) (sym k.2)))
+        | inr k ↦ h ∙ sym k
+      ]
+    ]
+
+module _ {V : Type 0} where
+  -- a name that is there hides one more declaration of it
+  pub kept_at : (f : ℕ → List ℕ → Option V) (t : ℕ) (y : List ℕ) (v : V) → is_some (f t y) ≡ true
+      → (s : ℕ) (x : List ℕ) → f s x ≡ option_or (f s x) (cond (same_key s x t y) (Some v) None)
+  kept_at f t y v there s x =
+      elim (key_cases s x t y) [
+        | inl h ↦ (let k : is_some (f s x) ≡ true = rw (h.1, h.2) there in
+            rw h.0 (kept (f s x) v k))
+        | inr h ↦ rw h (bare (f s x))
+      ]
+    where
+      kept : (o : Option V) (v : V) → is_some o ≡ true → o ≡ option_or o (Some v)
+      kept None v k = absurd (false≢true k)
+      kept (Some w) v k = refl
+
+      bare : (o : Option V) → o ≡ option_or o None
+      bare None = refl
+      bare (Some w) = refl
+
+  -- a name that is not there gets its declaration
+  pub put_at : (f : ℕ → List ℕ → Option V) (t : ℕ) (y : List ℕ) (v : V) → is_some (f t y) ≡ false
+      → (s : ℕ) (x : List ℕ) → cond (same_key t y s x) (Some v) (f s x)
+      ≡ option_or (f s x) (cond (same_key s x t y) (Some v) None)
+  put_at f t y v absent s x =
+      rw (same_key_swap t y s x) (
+      elim (key_cases s x t y) [
+        | inl h ↦ (let k : is_some (f s x) ≡ false = rw (h.1, h.2) absent in
+            rw h.0 (new (f s x) v k))
+        | inr h ↦ rw h (bare (f s x))
+      ])
+    where
+      new : (o : Option V) (v : V) → is_some o ≡ false → Some v ≡ option_or o (Some v)
+      new None v k = refl
+      new (Some w) v k = absurd (false≢true (sym k))
+
+      bare : (o : Option V) → o ≡ option_or o None
+      bare None = refl
+      bare (Some w) = refl

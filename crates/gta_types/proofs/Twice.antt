@@ -1,0 +1,137 @@
+-- An index after one more declaration, and the first name declared twice. Of any declarations.
+use Rattle.std.proofs.Common.{◌≡◌, ℕ, ◌+◌, Bool, true, false, ◌&&◌, nat_eq, List, [], ◌∷◌, ◌++◌, Option, Some, None, is_some, option_map, cond, not, ◌||◌, inl, inr, refl, sym, ap, ◌∙◌, append_assoc, arith}
+use Rattle.std.specs.Option.{option_or}
+use Rattle.std.specs.List.{find, list_any}
+use Rattle.std.specs.Str.{bytes_eq}
+use Rattle.std.proofs.lemmas.List.Folds.{find-append}
+use Rattle.std.proofs.lemmas.List.{append-nil}
+use Rattle.std.proofs.lemmas.Bool.{eq-eqb, ne_eqb, cases_eq}
+use Rattle.spec_rules.specs.SpecRules.{or_else, first_answer}
+use Rattle.gta_types.specs.declared.names.Found.{Found}
+use Rattle.gta_types.specs.declared.names.Names.{Names}
+use Rattle.gta_types.specs.Names.{Declaration, is_element, share_names, declared_again, declared_twice}
+use Rattle.gta_types.specs.Index.{scope_of, is_named, found_of, first_in, known_at, declared_place, IsIndex}
+
+pub or_else-or : {A : Type 0} (x y : Option A) → or_else x y ≡ option_or x y
+or_else-or None y = refl
+or_else-or (Some x) y = refl
+
+option_or_mapped : {A B : Type 0} (f : A → B) (x y : Option A)
+    → option_map f (option_or x y) ≡ option_or (option_map f x) (option_map f y)
+option_or_mapped f None y = refl
+option_or_mapped f (Some x) y = refl
+
+pub or_else_mapped : {A B : Type 0} (f : A → B) (x y : Option A)
+    → option_map f (or_else x y) ≡ or_else (option_map f x) (option_map f y)
+or_else_mapped f None y = refl
+or_else_mapped f (Some x) y = refl
+
+mapped_cond : {A B : Type 0} (f : A → B) (b : Bool) (x : A)
+    → option_map f (cond b (Some x) None) ≡ cond b (Some (f x)) None
+mapped_cond f true x = refl
+mapped_cond f false x = refl
+
+pub first_in-push : (all : List Declaration) (d : Declaration) (s : ℕ) (x : List ℕ)
+    → first_in (all ++ d ∷ []) s x
+    ≡ option_or (first_in all s x) (cond (nat_eq s (scope_of d) && bytes_eq x d.name) (Some (found_of d)) None)
+unfolding first_in
+first_in-push all d s x =
+    ap (option_map found_of) (find-append (is_named s x) all (d ∷ []))
+    ∙ option_or_mapped found_of (find (is_named s x) all) (find (is_named s x) (d ∷ []))
+    ∙ ap (option_or (option_map found_of (find (is_named s x) all))) (mapped_cond found_of (is_named s x d) d)
+
+pub is_some-mapped_find : {A B : Type 0} (f : A → B) (p : A → Bool) (xs : List A)
+    → is_some (option_map f (find p xs)) ≡ list_any p xs
+is_some-mapped_find f p [] = refl
+is_some-mapped_find f p (x ∷ xs) =
+    elim (p x) as (λ b. is_some (option_map f (cond b (Some x) (find p xs))) ≡ (b || list_any p xs)) [
+      | true ↦ refl
+      | false ↦ is_some-mapped_find f p xs
+    ]
+
+list_any_same : {A : Type 0} (p q : A → Bool) → ((x : A) → p x ≡ q x) → (xs : List A) → list_any p xs ≡ list_any q xs
+list_any_same p q same [] = refl
+list_any_same p q same (x ∷ xs) = rw (same x, list_any_same p q same xs) refl
+
+nat_eq_swap : (m n : ℕ) → nat_eq m n ≡ nat_eq n m
+nat_eq_swap m n =
+    elim (cases_eq m n) [
+      | inl e ↦ eq-eqb m n e ∙ sym (eq-eqb n m (sym e))
+      | inr k ↦ ne_eqb m n k ∙ sym (ne_eqb n m (λ e. k (sym e)))
+    ]
+
+nat_eq_next : (m n : ℕ) → nat_eq (m + 1) (n + 1) ≡ nat_eq n m
+nat_eq_next m n =
+    elim (cases_eq m n) [
+      | inl e ↦ (let f : m + 1 ≡ n + 1 = omega arith in eq-eqb (m + 1) (n + 1) f ∙ sym (eq-eqb n m (sym e)))
+      | inr k ↦ (let f : m + 1 ≡ n + 1 → ⊥ = λ e. k (omega arith) in
+          ne_eqb (m + 1) (n + 1) f ∙ sym (ne_eqb n m (λ e. k (sym e))))
+    ]
+
+same_scope : (e d : Bool) (m n : ℕ)
+    → nat_eq (cond d (n + 1) 0) (cond e (m + 1) 0) ≡ cond e (d && nat_eq m n) (not d)
+same_scope true true m n = nat_eq_next n m
+same_scope true false m n = ne_eqb 0 (m + 1) (λ h. omega arith)
+same_scope false true m n = ne_eqb (n + 1) 0 (λ h. omega arith)
+same_scope false false m n = refl
+
+pub bytes_eq_swap : (x y : List ℕ) → bytes_eq x y ≡ bytes_eq y x
+bytes_eq_swap [] [] = refl
+bytes_eq_swap [] (b ∷ bs) = refl
+bytes_eq_swap (a ∷ as') [] = refl
+bytes_eq_swap (a ∷ as') (b ∷ bs) = rw (nat_eq_swap a b, bytes_eq_swap as' bs) refl
+
+is_named_again : (d e : Declaration)
+    → is_named (scope_of d) d.name e ≡ (share_names e d && bytes_eq e.name d.name)
+is_named_again d e =
+    ap (λ (b : Bool). b && bytes_eq d.name e.name) (same_scope (is_element e.kind) (is_element d.kind) e.line d.line)
+    ∙ ap (λ (b : Bool). share_names e d && b) (bytes_eq_swap d.name e.name)
+
+or_else-assoc : {A : Type 0} (x y z : Option A) → or_else (or_else x y) z ≡ or_else x (or_else y z)
+or_else-assoc None y z = refl
+or_else-assoc (Some x) y z = refl
+
+or_else-none : {A : Type 0} (x : Option A) → or_else x None ≡ x
+or_else-none None = refl
+or_else-none (Some x) = refl
+
+pub first_answer-append : {A B : Type 0} (ask : List A → A → Option B) (before xs ys : List A)
+    → first_answer ask before (xs ++ ys) ≡ or_else (first_answer ask before xs) (first_answer ask (before ++ xs) ys)
+first_answer-append ask before [] ys = ap (λ (b : List _). first_answer ask b ys) (sym (append-nil before))
+first_answer-append ask before (x ∷ xs) ys =
+    ap (or_else (ask before x)) (first_answer-append ask (before ++ x ∷ []) xs ys
+    ∙ ap (λ (b : List _). or_else (first_answer ask (before ++ x ∷ []) xs) (first_answer ask b ys)) (append_assoc before (x ∷ []) xs))
+    ∙ sym (or_else-assoc (ask before x) _ _)
+
+declared_twice-push : (all : List Declaration) (d : Declaration)
+    → declared_twice (all ++ d ∷ []) ≡ or_else (declared_twice all) (declared_again all d)
+declared_twice-push all d = first_answer-append declared_again [] all (d ∷ [])
+    ∙ ap (or_else (declared_twice all)) (or_else-none (declared_again all d))
+
+pub index_more : (names after : Names) (all : List Declaration) (d : Declaration)
+    (t : ℕ) (y : List ℕ) (v : Found) → IsIndex names all
+    → t ≡ scope_of d → y ≡ d.name → v ≡ found_of d
+    → ((s : ℕ) (x : List ℕ) → known_at after s x
+    ≡ option_or (known_at names s x) (cond (nat_eq s t && bytes_eq x y) (Some v) None))
+    → IsIndex after (all ++ d ∷ [])
+index_more names after all d t y v known at_scope at_name is_found added = λ s x.
+    added s x
+    ∙ rw (at_scope, at_name, is_found) refl
+    ∙ ap (λ (o : Option Found). option_or o (cond (nat_eq s (scope_of d) && bytes_eq x d.name) (Some (found_of d)) None)) (known s x)
+    ∙ sym (first_in-push all d s x)
+
+pub twice_more : (names : Names) (all : List Declaration) (d : Declaration) (again : Bool) (t : ℕ) (y : List ℕ)
+    → IsIndex names all → t ≡ scope_of d → y ≡ d.name → again ≡ is_some (known_at names t y)
+    → option_map declared_place (declared_twice (all ++ d ∷ []))
+    ≡ or_else (option_map declared_place (declared_twice all)) (cond again (Some (declared_place d)) None)
+unfolding first_in
+twice_more names all d again t y known at_scope at_name is =
+    let e : again ≡ list_any (λ e. share_names e d && bytes_eq e.name d.name) all =
+    is ∙ rw (at_scope, at_name) refl ∙ ap (λ (o : Option Found). is_some o) (known (scope_of d) d.name)
+    ∙ is_some-mapped_find found_of (is_named (scope_of d) d.name) all
+    ∙ list_any_same _ _ (is_named_again d) all in
+    ap (option_map declared_place) (declared_twice-push all d)
+    ∙ or_else_mapped declared_place (declared_twice all) (declared_again all d)
+    ∙ ap (or_else (option_map declared_place (declared_twice all)))
+    (mapped_cond declared_place (list_any (λ e. share_names e d && bytes_eq e.name d.name) all) d
+    ∙ ap (λ (b : Bool). cond b (Some (declared_place d)) None) (sym e))

@@ -1,0 +1,9 @@
+use Rattle.gta_spec.specs.declared.parts.ColumnItem.{ColumnItem}
+use Rattle.gta_types.proofs.Numbers.{number_at_mapped}
+use Rattle.gta_types.proofs.resolving.column_number.Goals as goal
+
+pub returns-then-eq : goal.returns-then-eq
+returns-then-eq c =
+    let hit = rw (c.bytes.ensures, c.bytes-in-loop-number.ensures) at c.if-eq.ensures in
+    number_at_mapped (λ (item : ColumnItem). item.name) c.args.columns.now c.args.name.now c.loop-number.number
+    c.index-columns-number.result c.loop-number.invariant c.loop-number-test.true c.index-columns-number.is hit

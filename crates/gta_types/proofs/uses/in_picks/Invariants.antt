@@ -1,0 +1,10 @@
+use Rattle.std.proofs.Common.{◌≡◌, None, take}
+use Rattle.std.specs.List.{flat_map}
+use Rattle.gta_spec.specs.Parts.{pick_tree}
+use Rattle.gta_types.specs.Names.{uses_of_pick}
+use Rattle.gta_types.specs.Index.{unknown_in}
+use Rattle.gta_types.proofs.uses.in_picks.Given as goal
+
+abbrev pub invariant-loop-pick : goal.invariant-loop-pick
+invariant-loop-pick l =
+    unknown_in l.names (flat_map (λ pick. uses_of_pick l.line l.table (pick_tree pick)) (take l.pick-index l.picks)) ≡ None

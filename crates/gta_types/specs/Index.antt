@@ -1,0 +1,81 @@
+-- The first declarations of names, looked up by scope and name.
+use Rattle.std.specs.Prelude.{◌≡◌, ℕ, ◌+◌, Bool, true, ◌&&◌, ◌||◌, not, List, Some, None, is_some, Option, option_map, nat_eq, if◌then◌else◌}
+use Rattle.std.specs.Str.{bytes_eq}
+use Rattle.std.specs.List.{find}
+use Rattle.std.specs.HashMap.{get_by}
+use Rattle.gta_types.specs.declared.declaring.Declared.{Declared}
+use Rattle.gta_types.specs.declared.declaring.NameKind.{NameKind}
+use Rattle.gta_types.specs.declared.names.Found.{Found}
+use Rattle.gta_types.specs.declared.names.Names.{Names}
+use Rattle.gta_types.specs.declared.names.Place.{Place}
+use Rattle.gta_types.specs.declared.uses.Wanted.{Wanted as WantedPart}
+use Rattle.gta_types.specs.declared.uses.Wanted.TheVariants as wants
+use Rattle.gta_types.specs.Names.{Declaration, is_element, Use, Wanted, Column, Label, Weight, TableName, ElementOf, OneOf}
+use Rattle.gta_types.specs.declared.declaring.NameKind.TheVariants.{AColumn, ALabel, AMeasure, ATable}
+use Rattle.gta_types.specs.Names.{is_of, is_one_of}
+
+-- a declaration as a record of plain values
+abbrev pub declaration : Declared → Declaration
+declaration d = record { line = d.line; name = d.name.now; kind = d.kind }
+
+-- the elements of a table are apart from other names: each line has a scope of its own, and other names scope 0
+abbrev pub scope_of : Declaration → ℕ
+scope_of d = if is_element d.kind then d.line + 1 else 0
+
+abbrev pub is_named : ℕ → List ℕ → Declaration → Bool
+is_named scope x d = nat_eq scope (scope_of d) && bytes_eq x d.name
+
+abbrev pub found_of : Declaration → Found
+found_of d = record { kind = d.kind; line = d.line }
+
+-- what the first declaration of a name in a scope says
+unfoldable pub first_in : List Declaration → ℕ → List ℕ → Option Found
+first_in all scope x = option_map found_of (find (is_named scope x) all)
+
+-- what an index has at a name in a scope
+unfoldable pub known_at : Names → ℕ → List ℕ → Option Found
+known_at names scope x = get_by (λ k. nat_eq scope k.0 && bytes_eq x k.1.now) names.first
+
+-- the index of the first declarations
+abbrev pub IsIndex : Names → List Declaration → Type 0
+IsIndex names all = (scope : ℕ) (x : List ℕ) → known_at names scope x ≡ first_in all scope x
+
+-- a name, and its line
+abbrev pub place : Place → ℕ × List ℕ
+place p = (p.line, p.name.now)
+
+abbrev pub declared_place : Declaration → ℕ × List ℕ
+declared_place d = (d.line, d.name)
+
+-- what an index has at a name that is no element
+abbrev pub kind_at : Names → List ℕ → Option NameKind
+kind_at names x = option_map (λ found. found.kind) (known_at names 0 x)
+
+-- whether an index has an element of a table, passed over where that is no table
+abbrev pub has_element : Names → Option Found → List ℕ → Bool
+has_element names None x = true
+has_element names (Some table) x = if is_of ATable (Some table.kind) then is_some (known_at names (table.line + 1) x) else true
+
+-- whether a name is declared for a use, as an index has it
+abbrev pub known_by : Names → Wanted → List ℕ → Bool
+known_by names Column x = is_of AColumn (kind_at names x)
+known_by names Label x = is_of ALabel (kind_at names x)
+known_by names Weight x = is_of AColumn (kind_at names x) || is_of AMeasure (kind_at names x)
+known_by names TableName x = is_of ATable (kind_at names x)
+known_by names (ElementOf table) x = has_element names (known_at names 0 table) x
+known_by names (OneOf names') x = is_one_of names' x
+
+abbrev pub used_place : Use → ℕ × List ℕ
+used_place u = (u.line, u.name)
+
+-- the first of these uses whose name an index hasn't for it
+unfoldable pub unknown_in : Names → List Use → Option (ℕ × List ℕ)
+unknown_in names us = option_map used_place (find (λ u. not (known_by names u.wanted u.name)) us)
+
+abbrev pub wanted_of : WantedPart → Wanted
+wanted_of wants.Column = Column
+wanted_of wants.Label = Label
+wanted_of wants.Weight = Weight
+wanted_of wants.TableName = TableName
+wanted_of (wants.ElementOf table) = ElementOf table.now
+wanted_of (wants.OneOf names) = OneOf names.now

@@ -1,0 +1,55 @@
+-- The declared names of a specification without tables, as the code keeps them.
+use Rattle.std.specs.Prelude.{◌≡◌, ◌≤◌, List, [], ◌++◌, map, length}
+use Rattle.std.specs.List.{flat_map}
+use Rattle.gta_spec.specs.declared.limits.TheConstants.{COLUMN_LIMIT, LABEL_LIMIT, MEASURE_LIMIT}
+use Rattle.gta_spec.specs.Parts.{KindTree, PartTree}
+use Rattle.gta_checked.specs.Plain.{plain_measure, plain_test}
+use Rattle.gta_types.specs.declared.lists.Lists.{Lists}
+use Rattle.gta_types.specs.declared.gathering.Gathered.{Gathered}
+use Rattle.gta_types.specs.declared.drafting.Draft.{Draft}
+use Rattle.gta_types.specs.Resolved.{Environment, environment, column_items, label_names, measure_names, table_parts}
+use Rattle.gta_types.specs.Resolved.{declared_measures, tests_of, shapes_of, goals_of}
+
+-- the environment that these lists stand for
+abbrev pub environment_of : Lists → Environment
+environment_of lists = record {
+  columns = map (λ item. item.name) lists.columns.items;
+  labels = lists.labels.items;
+  measures = lists.measures.items;
+  tables = [];
+}
+
+-- the copies have one line's names more
+pub record HasGatheredMore (kind : KindTree) (old new : Gathered) : Type 0 where
+  pub columns : new.columns.items ≡ old.columns.items ++ column_items kind
+  pub labels : new.labels.items ≡ old.labels.items ++ label_names kind
+  pub measures : new.measures.items ≡ old.measures.items ++ measure_names kind
+
+-- the copies have the names of these lines
+pub record HasGathered (parts : List PartTree) (gathered : Gathered) : Type 0 where
+  pub columns : gathered.columns.items ≡ flat_map (λ part. column_items part.kind) parts
+  pub labels : gathered.labels.items ≡ flat_map (λ part. label_names part.kind) parts
+  pub measures : gathered.measures.items ≡ flat_map (λ part. measure_names part.kind) parts
+
+-- the names of these lines are no more than there may be, and none is a table
+pub record HasFewNames (parts : List PartTree) : Type 0 where
+  pub columns : length (flat_map (λ part. column_items part.kind) parts) ≤ COLUMN_LIMIT
+  pub labels : length (environment parts).labels ≤ LABEL_LIMIT
+  pub measures : length (environment parts).measures ≤ MEASURE_LIMIT
+  pub no_tables : flat_map (λ part. table_parts part.kind) parts ≡ []
+
+-- one line's share is drafted beside what was
+pub record IsDraftedMore (env : Environment) (kind : KindTree) (old new : Draft) : Type 0 where
+  pub measures : map plain_measure new.measures.items ≡ map plain_measure old.measures.items ++ declared_measures env kind
+  pub tests : map plain_test new.tests.items ≡ map plain_test old.tests.items ++ tests_of env kind
+  pub shapes : new.shapes.items ≡ old.shapes.items ++ shapes_of kind
+  pub goals : new.goals.items ≡ old.goals.items ++ goals_of env kind
+
+-- the shares of these lines are drafted
+pub record IsDrafted (env : Environment) (parts : List PartTree) (old new : Draft) : Type 0 where
+  pub measures : map plain_measure new.measures.items
+      ≡ map plain_measure old.measures.items ++ flat_map (λ part. declared_measures env part.kind) parts
+  pub tests : map plain_test new.tests.items
+      ≡ map plain_test old.tests.items ++ flat_map (λ part. tests_of env part.kind) parts
+  pub shapes : new.shapes.items ≡ old.shapes.items ++ flat_map (λ part. shapes_of part.kind) parts
+  pub goals : new.goals.items ≡ old.goals.items ++ flat_map (λ part. goals_of env part.kind) parts
