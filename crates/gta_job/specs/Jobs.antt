@@ -68,7 +68,7 @@ text_of_spec (Err fault) = []
 text_of_spec (Ok read) = canonical read.spec
 
 -- the refusal of a command on bytes but for their number
-abbrev pub job_refusal : Command → List ℕ → Option Refusal
+unfoldable pub job_refusal : Command → List ℕ → Option Refusal
 job_refusal Run bytes = or_else (refusal_of_spec (spec_of bytes)) (refusal_of_form (job_of bytes))
 job_refusal Show bytes = refusal_of_spec (spec_of bytes)
 

@@ -89,6 +89,7 @@ impl From<CheckFault> for JobEnd {
 
 /// The report of the job that the bytes hold, or its refusal. The number of workers and the size of a
 /// leaf don't show in the answer.
+#[tactic(auto, unfolding(crate::specs::Jobs::job_refusal))]
 pub fn answer_job<R: Threads + Sync>(
     _rt: &R,
     alloc: Global,
@@ -111,6 +112,7 @@ pub fn answer_job<R: Threads + Sync>(
 }
 
 /// The canonical text of the specification that the bytes hold, or its refusal. The table is not looked at.
+#[tactic(auto, unfolding(crate::specs::Jobs::job_refusal))]
 pub fn show_job(alloc: Global, bytes: &[u8]) -> Result<Vec<u8>, JobEnd>
     requires within { length bytes.now ≤ 67108864 }
     ensures accepted { OnOk result (job_refusal Show bytes.now ≡ None) }

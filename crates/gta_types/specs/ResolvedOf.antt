@@ -1,14 +1,12 @@
 -- The one specification that another is resolved to.
-use Rattle.std.specs.Prelude.{◌≡◌, ℕ, List, [], ◌∷◌, ◌++◌, map, length}
-use Rattle.std.specs.List.{flat_map, range_with_len}
-use Rattle.std.proofs.Common.{refl, sym, ◌∙◌, ap}
-use Rattle.shape_gen.specs.declared.shape.Shape.{Shape}
+use Rattle.std.specs.Prelude.{◌≡◌, List, [], ◌∷◌}
+use Rattle.std.specs.List.{flat_map}
+use Rattle.std.proofs.Common.{refl}
 use Rattle.shape_gen.specs.declared.shape.Shape.TheVariants.{Sublists}
-use Rattle.gta_checked.specs.declared.resolved.Goal.{Goal}
 use Rattle.gta_checked.specs.declared.resolved.Goal.TheVariants.{Count}
 use Rattle.gta_checked.specs.Plain.{PlainChecked}
 use Rattle.gta_spec.specs.Parts.{SpecTree}
-use Rattle.gta_types.specs.Resolved.{IsResolved, column_items, column_measure, declared_measures, environment, goals_of}
+use Rattle.gta_types.specs.Resolved.{IsResolved, column_items, environment, goals_of, measures_of}
 use Rattle.gta_types.specs.Resolved.{shapes_of, tests_of}
 
 -- the first of a list, or what stands in its place
@@ -20,12 +18,11 @@ first_or other (x ∷ xs) = x
 unfoldable pub resolved_of : SpecTree → PlainChecked
 resolved_of spec =
     let env = environment spec.parts in
-    let columns = flat_map (λ part. column_items part.kind) spec.parts in
     record {
       version = spec.version;
-      columns = columns;
+      columns = flat_map (λ part. column_items part.kind) spec.parts;
       labels = env.labels;
-      measures = map column_measure (range_with_len 0 (length columns)) ++ flat_map (λ part. declared_measures env part.kind) spec.parts;
+      measures = measures_of spec.parts;
       tests = flat_map (λ part. tests_of env part.kind) spec.parts;
       shape = first_or Sublists (flat_map (λ part. shapes_of part.kind) spec.parts);
       goal = first_or Count (flat_map (λ part. goals_of env part.kind) spec.parts);
@@ -34,5 +31,4 @@ resolved_of spec =
 pub resolved-is : {spec : SpecTree} {checked : PlainChecked} → IsResolved spec checked → checked ≡ resolved_of spec
 unfolding resolved_of
 resolved-is is =
-    let measures = rw is.columns at is.measures in
-    rw (← measures, ← is.tests, ← is.goal, ← is.labels, ← is.columns, ← is.shape, ← is.version) refl
+    rw (← is.measures, ← is.tests, ← is.goal, ← is.labels, ← is.columns, ← is.shape, ← is.version) refl
