@@ -1,5 +1,7 @@
 -- A specification without a fault is within the limits once its names are resolved.
-use Rattle.std.proofs.Common.{◌≡◌, ℕ, ◌+◌, ◌<◌, ◌≤◌, Bool, true, false, ◌&&◌, ◌||◌, nat_lt, leb, List, [], ◌∷◌, ◌++◌, map, filter, length, get_or, Some, All, cond, refl, sym, ap, ◌∙◌, inl, inr, arith}
+use Rattle.std.proofs.Common.{◌≡◌, ℕ, ◌+◌, ◌<◌, ◌≤◌, Bool, true, false, ◌&&◌, ◌||◌, nat_lt, leb}
+use Rattle.std.proofs.Common.{List, [], ◌∷◌, ◌++◌, map, filter, length, get_or, Some, All, cond}
+use Rattle.std.proofs.Common.{refl, sym, ap, ◌∙◌, inl, inr, arith}
 use Rattle.std.specs.List.{find, list_any, flat_map, range_with_len}
 use Rattle.std.proofs.lemmas.List.{length-map, length-append}
 use Rattle.std.proofs.lemmas.List.FromFn.{length-range_with_len, get_or-range_with_len}
@@ -11,19 +13,26 @@ use Rattle.gta_spec.specs.declared.limits.TheConstants.{CASE_LIMIT, MEASURE_LIMI
 use Rattle.gta_spec.specs.declared.parts.GoalPart.{GoalPart}
 use Rattle.gta_spec.specs.declared.parts.GoalPart.TheVariants as goals
 use Rattle.gta_spec.specs.declared.parts.ColumnItem.{ColumnItem}
-use Rattle.gta_spec.specs.Parts.{Sum, Length, Fold, KindTree, Columns, Labels, Measure, Table, Times, Generate, Test, Aggregate, PartTree}
+use Rattle.gta_spec.specs.Parts.{Sum, Length, Fold, KindTree, Columns, Labels, Measure, Table}
+use Rattle.gta_spec.specs.Parts.{Times, Generate, Test, Aggregate, PartTree}
 use Rattle.gta_spec.specs.WellFormed.{EachFits, FitsKind, FitParts}
-use Rattle.gta_checked.specs.Within.{IsTermWithin, IsAtomWithin, IsCaseWithin, IsMeasureWithin, IsTestWithin, IsGoalWithin}
+use Rattle.gta_checked.specs.Plain.{PlainCase, PlainTest}
+use Rattle.gta_checked.specs.Within.{IsTermWithin, IsAtomWithin, IsCaseWithin, IsMeasureWithin}
+use Rattle.gta_checked.specs.Within.{IsTestWithin, IsGoalWithin}
 use Rattle.spec_rules.specs.declared.fault.Limit.TheVariants as limits
 use Rattle.spec_rules.specs.SpecRules.{is_table, is_measure, is_test, earlier}
 use Rattle.gta_types.specs.declared.declaring.NameKind.TheVariants.{AColumn, ALabel, AMeasure, ATable}
-use Rattle.gta_types.specs.Names.{Declaration, declarations_of, declarations, declaration_of, declared_as, is_of, same_kind, Weight, use_as, uses_of, uses}
-use Rattle.gta_types.specs.Resolved.{number_of_weight, column_items, measure_names, environment, resolved_case, resolved_goal, column_measure, declared_measures, tests_of, measures_of}
+use Rattle.gta_types.specs.Names.{Declaration, declarations_of, declarations, declaration_of}
+use Rattle.gta_types.specs.Names.{declared_as, is_of, same_kind, Weight, use_as, uses_of, uses}
+use Rattle.gta_types.specs.Resolved.{number_of_weight, column_items, measure_names, environment}
+use Rattle.gta_types.specs.Resolved.{resolved_case, resolved_goal, column_measure}
+use Rattle.gta_types.specs.Resolved.{declared_measures, tests_of, measures_of}
 use Rattle.gta_types.specs.Ready.{is_fold}
 use Rattle.gta_types.proofs.Looked.{called, option_cases, line_of_map, kind_differs}
 use Rattle.gta_types.proofs.Rules.{Kept, AllKept, few_lines, length_lines}
 use Rattle.gta_types.proofs.InRange.{weight_in}
-use Rattle.gta_types.proofs.Within.{Known, column_count, label_count, each_front, each_back, or_false_parts, cases_within, check_within}
+use Rattle.gta_types.proofs.Within.{Known, column_count, label_count, each_front, each_back}
+use Rattle.gta_types.proofs.Within.{or_false_parts, cases_within, check_within}
 
 -- no line is a table, so no name is declared as one
 no_table_here : (p : Declaration → Bool) (line : ℕ) (kind : KindTree) (d : Declaration) → is_table kind ≡ false
@@ -82,9 +91,12 @@ pub record LineFacts (all : List PartTree) (line : ℕ) (kind : KindTree) : Type
   pub known : EachFits (Known all) (uses_of line kind)
   pub no_fold : is_fold kind ≡ false
 
+abbrev pub Facts : List PartTree → PartTree → Type 0
+Facts all part = LineFacts all part.line part.kind
+
 pub line_facts : (all : List PartTree) → list_any (λ (part : PartTree). is_table part.kind) all ≡ false
     → (low : ℕ) (before parts : List PartTree) → FitParts low parts → AllKept before parts
-    → EachFits (Known all) (uses parts) → EachFits (λ (part : PartTree). LineFacts all part.line part.kind) parts
+    → EachFits (Known all) (uses parts) → EachFits (Facts all) parts
 line_facts all none low before [] fits kept known = tt
 line_facts all none low before (part ∷ parts) fits kept known =
     let here = each_front (Known all) (uses_of part.line part.kind) (uses parts) known in (
@@ -131,7 +143,8 @@ one_measure_name (Generate shape) = refl
 one_measure_name (Test test) = refl
 one_measure_name (Aggregate goal) = refl
 
-one_measure : (all : List PartTree) (kind : KindTree) → length (declared_measures (environment all) kind) ≡ cond (is_measure kind) 1 0
+one_measure : (all : List PartTree) (kind : KindTree)
+    → length (declared_measures (environment all) kind) ≡ cond (is_measure kind) 1 0
 one_measure all (Columns items) = refl
 one_measure all (Labels xs) = refl
 one_measure all (Measure part) = refl
@@ -173,7 +186,8 @@ measures_length all =
     let b : length columns ≡ length (environment all).columns =
     length-map (range_with_len 0 (length (environment all).columns)) column_measure
     ∙ length-range_with_len 0 (length (environment all).columns) in
-    let c = length_lines is_measure MEASURE_LIMIT measure_pick (declared_measures (environment all)) (one_measure all) all in
+    let c = length_lines is_measure MEASURE_LIMIT measure_pick (declared_measures (environment all))
+    (one_measure all) all in
     let d = length_lines is_measure MEASURE_LIMIT measure_pick measure_names one_measure_name all in
     omega (arith, a, b, c, d)
 
@@ -184,50 +198,57 @@ weight_within all line x known =
     let len = length-append (environment all).columns (environment all).measures in
     let m = measures_length all in omega (arith, within, len, m)
 
+-- a measure, and a test, within the limits of these lines
+abbrev pub MeasureWithin : List PartTree → List PlainCase → Type 0
+MeasureWithin all = IsMeasureWithin (column_count all) (label_count all)
+
+abbrev pub TestWithin : List PartTree → PlainTest → Type 0
+TestWithin all = IsTestWithin (column_count all) (label_count all) (length (measures_of all))
+
 measures_of_line : (all : List PartTree) (line : ℕ) (kind : KindTree) → LineFacts all line kind
-    → All (IsMeasureWithin (column_count all) (label_count all)) (declared_measures (environment all) kind)
-measures_of_line all line (Columns items) facts = All-nil (IsMeasureWithin (column_count all) (label_count all))
-measures_of_line all line (Labels xs) facts = All-nil (IsMeasureWithin (column_count all) (label_count all))
+    → All (MeasureWithin all) (declared_measures (environment all) kind)
+measures_of_line all line (Columns items) facts = All-nil (MeasureWithin all)
+measures_of_line all line (Labels xs) facts = All-nil (MeasureWithin all)
 measures_of_line all line (Measure part) facts =
-    All-cons (IsMeasureWithin (column_count all) (label_count all)) (map (resolved_case (environment all)) part.cases) [] (
+    All-cons (MeasureWithin all) (map (resolved_case (environment all)) part.cases) [] (
       (let l = length-map part.cases (resolved_case (environment all)) in
           let few = ltb-false CASE_LIMIT (length part.cases) (facts.kept limits.Cases) in omega arith),
       cases_within all line part.cases facts.fits.1.1 (facts.kept limits.Terms) (facts.kept limits.Atoms)
           (facts.kept limits.Factor) facts.known,
     )
-    (All-nil (IsMeasureWithin (column_count all) (label_count all)))
-measures_of_line all line (Table part) facts = All-nil (IsMeasureWithin (column_count all) (label_count all))
-measures_of_line all line (Times part) facts = All-nil (IsMeasureWithin (column_count all) (label_count all))
-measures_of_line all line (Generate shape) facts = All-nil (IsMeasureWithin (column_count all) (label_count all))
-measures_of_line all line (Test test) facts = All-nil (IsMeasureWithin (column_count all) (label_count all))
-measures_of_line all line (Aggregate goal) facts = All-nil (IsMeasureWithin (column_count all) (label_count all))
+    (All-nil (MeasureWithin all))
+measures_of_line all line (Table part) facts = All-nil (MeasureWithin all)
+measures_of_line all line (Times part) facts = All-nil (MeasureWithin all)
+measures_of_line all line (Generate shape) facts = All-nil (MeasureWithin all)
+measures_of_line all line (Test test) facts = All-nil (MeasureWithin all)
+measures_of_line all line (Aggregate goal) facts = All-nil (MeasureWithin all)
 
 one_check : (b : Bool) → (b || false) ≡ false → b ≡ false
 one_check true h = h
 one_check false h = refl
 
 tests_of_line : (all : List PartTree) (line : ℕ) (kind : KindTree) → LineFacts all line kind
-    → All (IsTestWithin (column_count all) (label_count all) (length (measures_of all))) (tests_of (environment all) kind)
-tests_of_line all line (Columns items) facts = All-nil (IsTestWithin (column_count all) (label_count all) (length (measures_of all)))
-tests_of_line all line (Labels xs) facts = All-nil (IsTestWithin (column_count all) (label_count all) (length (measures_of all)))
-tests_of_line all line (Measure part) facts = All-nil (IsTestWithin (column_count all) (label_count all) (length (measures_of all)))
-tests_of_line all line (Table part) facts = All-nil (IsTestWithin (column_count all) (label_count all) (length (measures_of all)))
-tests_of_line all line (Times part) facts = All-nil (IsTestWithin (column_count all) (label_count all) (length (measures_of all)))
-tests_of_line all line (Generate shape) facts = All-nil (IsTestWithin (column_count all) (label_count all) (length (measures_of all)))
+    → All (TestWithin all) (tests_of (environment all) kind)
+tests_of_line all line (Columns items) facts = All-nil (TestWithin all)
+tests_of_line all line (Labels xs) facts = All-nil (TestWithin all)
+tests_of_line all line (Measure part) facts = All-nil (TestWithin all)
+tests_of_line all line (Table part) facts = All-nil (TestWithin all)
+tests_of_line all line (Times part) facts = All-nil (TestWithin all)
+tests_of_line all line (Generate shape) facts = All-nil (TestWithin all)
 tests_of_line all line (Test (Sum x check)) facts =
-    All-cons (IsTestWithin (column_count all) (label_count all) (length (measures_of all))) _ [] (
+    All-cons (TestWithin all) _ [] (
       weight_within all line x facts.known.0,
       check_within check (one_check _ (facts.kept limits.Bound)) (one_check _ (facts.kept limits.Modulus))
           (one_check _ (facts.kept limits.Residue)),
     )
-    (All-nil (IsTestWithin (column_count all) (label_count all) (length (measures_of all))))
+    (All-nil (TestWithin all))
 tests_of_line all line (Test (Length check)) facts =
-    All-cons (IsTestWithin (column_count all) (label_count all) (length (measures_of all))) _ []
+    All-cons (TestWithin all) _ []
     (check_within check (one_check _ (facts.kept limits.Bound)) (one_check _ (facts.kept limits.Modulus))
     (one_check _ (facts.kept limits.Residue)))
-    (All-nil (IsTestWithin (column_count all) (label_count all) (length (measures_of all))))
+    (All-nil (TestWithin all))
 tests_of_line all line (Test (Fold table picks accept)) facts = absurd (false≢true (sym facts.no_fold))
-tests_of_line all line (Aggregate goal) facts = All-nil (IsTestWithin (column_count all) (label_count all) (length (measures_of all)))
+tests_of_line all line (Aggregate goal) facts = All-nil (TestWithin all)
 
 pub goal_of_line : (all : List PartTree) (line : ℕ) (goal : GoalPart) → LineFacts all line (Aggregate goal)
     → IsGoalWithin (length (measures_of all)) (resolved_goal (environment all) goal)
@@ -241,12 +262,14 @@ goal_of_line all line (goals.Best k greatest x) facts =
     (low, high, weight_within all line x facts.known.0)
 
 all_flat : {B : Type 0} (P : B → Type 0) (Q : PartTree → Type 0) (g : PartTree → List B)
-    → ((part : PartTree) → Q part → All P (g part)) → (parts : List PartTree) → EachFits Q parts → All P (flat_map g parts)
+    → ((part : PartTree) → Q part → All P (g part)) → (parts : List PartTree) → EachFits Q parts
+    → All P (flat_map g parts)
 all_flat P Q g each [] fits = All-nil P
 all_flat P Q g each (part ∷ parts) fits =
     All-append P (g part) (flat_map g parts) (each part fits.0) (all_flat P Q g each parts fits.1)
 
-column_measure_within : (columns labels column : ℕ) → column < columns → IsMeasureWithin columns labels (column_measure column)
+column_measure_within : (columns labels column : ℕ) → column < columns
+    → IsMeasureWithin columns labels (column_measure column)
 column_measure_within columns labels column below = (
   omega arith,
   All-cons (IsCaseWithin columns labels) _ []
@@ -258,26 +281,29 @@ column_measure_within columns labels column below = (
       (All-nil (IsCaseWithin columns labels)),
 )
 
-pub all_measures : (all : List PartTree) → EachFits (λ (part : PartTree). LineFacts all part.line part.kind) all
-    → All (IsMeasureWithin (column_count all) (label_count all)) (measures_of all)
+pub all_measures : (all : List PartTree) → EachFits (Facts all) all
+    → All (MeasureWithin all) (measures_of all)
 all_measures all facts =
     let n = length (environment all).columns in
-    let P = IsMeasureWithin (column_count all) (label_count all) in
-    let same : n ≡ column_count all = length-map (flat_map (λ (part : PartTree). column_items part.kind) all) (λ item. item.name) in
-    All-append P (map column_measure (range_with_len 0 n)) (flat_map (λ (part : PartTree). declared_measures (environment all) part.kind) all)
+    let P = MeasureWithin all in
+    let same : n ≡ column_count all = length-map (flat_map
+    (λ (part : PartTree). column_items part.kind) all) (λ item. item.name) in
+    All-append P (map column_measure (range_with_len 0 n))
+    (flat_map (λ (part : PartTree). declared_measures (environment all) part.kind) all)
     (All-map P column_measure (range_with_len 0 n) (λ k d lt.
     let l = length-range_with_len 0 n in
     let below : k < n = omega (arith, lt, l) in
     let at = get_or-range_with_len 0 n k d below in
-    column_measure_within (column_count all) (label_count all) (get_or (range_with_len 0 n) k d) (omega (arith, at, same, below))))
-    (all_flat P (λ (part : PartTree). LineFacts all part.line part.kind)
+    column_measure_within (column_count all) (label_count all) (get_or (range_with_len 0 n) k d)
+    (omega (arith, at, same, below))))
+    (all_flat P (Facts all)
     (λ (part : PartTree). declared_measures (environment all) part.kind)
     (λ part facts. measures_of_line all part.line part.kind facts) all facts)
 
-pub all_tests : (all : List PartTree) → EachFits (λ (part : PartTree). LineFacts all part.line part.kind) all
-    → All (IsTestWithin (column_count all) (label_count all) (length (measures_of all)))
+pub all_tests : (all : List PartTree) → EachFits (Facts all) all
+    → All (TestWithin all)
     (flat_map (λ (part : PartTree). tests_of (environment all) part.kind) all)
 all_tests all facts =
-    all_flat (IsTestWithin (column_count all) (label_count all) (length (measures_of all)))
-    (λ (part : PartTree). LineFacts all part.line part.kind) (λ (part : PartTree). tests_of (environment all) part.kind)
+    all_flat (TestWithin all)
+    (Facts all) (λ (part : PartTree). tests_of (environment all) part.kind)
     (λ part facts. tests_of_line all part.line part.kind facts) all facts

@@ -11,7 +11,8 @@ use Rattle.gta_types.specs.Faults.{name_fault, check_fault, fault_of_rule, unbui
 
 named : (spec : SpecTree) (fault : CheckFault) → name_fault spec.parts ≡ Some fault → check_fault spec ≡ Some fault
 unfolding check_fault
-named spec fault e = ap (λ (o : Option CheckFault). or_else o (or_else (option_map fault_of_rule (rule_fault spec)) (unbuilt spec.parts))) e
+named spec fault e = ap (λ (o : Option CheckFault). or_else o
+    (or_else (option_map fault_of_rule (rule_fault spec)) (unbuilt spec.parts))) e
 
 pub end_of_names : (spec : SpecTree) (fault : CheckFault) → IsEndBy (name_fault spec.parts) fault → IsFaultOf spec fault
 end_of_names spec (faults.Unknown line name) e = named spec _ e
@@ -27,7 +28,8 @@ after_names : (spec : SpecTree) → name_fault spec.parts ≡ None
     → check_fault spec ≡ or_else (option_map fault_of_rule (rule_fault spec)) (unbuilt spec.parts)
 unfolding check_fault
 after_names spec e =
-    ap (λ (o : Option CheckFault). or_else o (or_else (option_map fault_of_rule (rule_fault spec)) (unbuilt spec.parts))) e
+    ap (λ (o : Option CheckFault). or_else o (or_else (option_map fault_of_rule (rule_fault spec))
+    (unbuilt spec.parts))) e
 
 broken : (spec : SpecTree) (rule : RuleFault) → name_fault spec.parts ≡ None → rule_fault spec ≡ Some rule
     → check_fault spec ≡ Some (fault_of_rule rule)

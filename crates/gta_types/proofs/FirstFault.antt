@@ -45,7 +45,8 @@ name_fault-twice parts line name none e =
 pub name_fault-none : (parts : List PartTree) → option_map used_place (unknown_use parts) ≡ None
     → option_map declared_place (declared_twice (declarations parts)) ≡ None → name_fault parts ≡ None
 unfolding name_fault
-name_fault-none parts none e = none_unknown (unknown_use parts) _ none ∙ none_twice (declared_twice (declarations parts)) e
+name_fault-none parts none e = none_unknown (unknown_use parts) _ none
+    ∙ none_twice (declared_twice (declarations parts)) e
 
 -- what the name says of no fault
 pub no_name_fault : (parts : List PartTree) → name_fault parts ≡ None

@@ -1,5 +1,6 @@
 -- The number of a name that is declared for its use is in range.
-use Rattle.std.proofs.Common.{◌≡◌, ℕ, ◌<◌, Bool, true, false, ◌&&◌, ◌||◌, not, List, [], ◌∷◌, ◌++◌, map, length, Some, cond, refl, sym, ap, ◌∙◌, inl, inr, subst, arith}
+use Rattle.std.proofs.Common.{◌≡◌, ℕ, ◌<◌, Bool, true, false, ◌&&◌, ◌||◌, not, List, [], ◌∷◌, ◌++◌}
+use Rattle.std.proofs.Common.{map, length, Some, cond, refl, sym, ap, ◌∙◌, inl, inr, subst, arith}
 use Rattle.std.specs.Option.{option_or}
 use Rattle.std.specs.List.{find, flat_map}
 use Rattle.std.specs.Str.{bytes_eq}
@@ -8,10 +9,12 @@ use Rattle.std.proofs.lemmas.List.Folds.{find-append}
 use Rattle.std.proofs.lemmas.Bool.{false≢true, cases_Bool, cases_lt, or_cases}
 use Rattle.std.proofs.lemmas.Option.{none-some, same_Some}
 use Rattle.gta_spec.specs.declared.parts.ColumnItem.{ColumnItem}
-use Rattle.gta_spec.specs.Parts.{KindTree, Columns, Labels, Measure, Table, Times, Generate, Test, Aggregate, PartTree}
+use Rattle.gta_spec.specs.Parts.{KindTree, Columns, Labels, Measure, Table, Times, Generate, Test}
+use Rattle.gta_spec.specs.Parts.{Aggregate, PartTree}
 use Rattle.gta_types.specs.declared.declaring.NameKind.{NameKind}
 use Rattle.gta_types.specs.declared.declaring.NameKind.TheVariants.{AColumn, ALabel, AMeasure, ATable, AnElement}
-use Rattle.gta_types.specs.Names.{Declaration, declare, declarations_of, declarations, declaration_of, declared_as, is_element, is_of, same_kind}
+use Rattle.gta_types.specs.Names.{Declaration, declare, declarations_of, declarations}
+use Rattle.gta_types.specs.Names.{declaration_of, declared_as, is_element, is_of, same_kind}
 use Rattle.gta_types.specs.Resolved.{number_of, column_items, label_names, measure_names, environment}
 use Rattle.gta_types.proofs.Looked.{called, option_cases, line_of_map}
 use Rattle.gta_types.proofs.Numbers.{number_of-append-past, number_of-append-within}
@@ -64,7 +67,8 @@ named_in line kind f x [] d e = absurd (none-some d e)
 named_in line kind f x (a ∷ xs) d e =
     elim (cases_Bool (bytes_eq (f a) x)) [
       | inl h ↦ rw h (omega arith)
-      | inr h ↦ (let none : (not (is_element kind) && bytes_eq (f a) x) ≡ false = rw h (and_false (not (is_element kind))) in
+      | inr h ↦ (let none : (not (is_element kind) && bytes_eq (f a) x)
+          ≡ false = rw h (and_false (not (is_element kind))) in
           let rest = named_in line kind f x xs d (rw none at e) in rw h (omega arith))
     ]
   where
@@ -80,13 +84,17 @@ other_kind : (K k d : NameKind) → d ≡ k → same_kind K k ≡ false → same
 other_kind K k d e differs same = false≢true (sym differs ∙ ap (same_kind K) (sym e) ∙ same)
 
 -- a declaration of a table line is of the table or of an element
-table_line : (p : Declaration → Bool) (K : NameKind) (line : ℕ) (name : List ℕ) (elements : List (List ℕ)) (d : Declaration)
+table_line : (p : Declaration → Bool) (K : NameKind) (line : ℕ) (name : List ℕ) (elements : List (List ℕ))
+    (d : Declaration)
     → find p (declare line ATable name ∷ map (declare line AnElement) elements) ≡ Some d
     → same_kind K ATable ≡ false → same_kind K AnElement ≡ false → same_kind K d.kind ≡ true → ⊥
 table_line p K line name elements d e no_table no_element same =
-    elim (p (declare line ATable name)) as (λ b. cond b (Some (declare line ATable name)) (find p (map (declare line AnElement) elements)) ≡ Some d → ⊥) [
-      | true ↦ (λ h. other_kind K ATable d.kind (ap (λ (x : Declaration). x.kind) (sym (same_Some _ _ h))) no_table same)
-      | false ↦ (λ h. other_kind K AnElement d.kind (line_of_map p line AnElement (λ (x : List ℕ). x) elements d h).1 no_element same)
+    elim (p (declare line ATable name)) as (λ b. cond b (Some (declare line ATable name))
+    (find p (map (declare line AnElement) elements)) ≡ Some d → ⊥) [
+      | true ↦ (λ h. other_kind K ATable d.kind (ap (λ (x : Declaration). x.kind)
+          (sym (same_Some _ _ h))) no_table same)
+      | false ↦ (λ h. other_kind K AnElement d.kind
+          (line_of_map p line AnElement (λ (x : List ℕ). x) elements d h).1 no_element same)
     ] e
 
 column_here : (x : List ℕ) (line : ℕ) (kind : KindTree) (d : Declaration)
@@ -94,7 +102,8 @@ column_here : (x : List ℕ) (line : ℕ) (kind : KindTree) (d : Declaration)
     → IsIn x (map (λ (item : ColumnItem). item.name) (column_items kind))
 column_here x line (Columns items) d e same = named_in line AColumn (λ (item : ColumnItem). item.name) x items d e
 column_here x line (Labels xs) d e same =
-    absurd (other_kind AColumn ALabel d.kind (line_of_map (called x) line ALabel (λ (x : List ℕ). x) xs d e).1 refl same)
+    absurd (other_kind AColumn ALabel d.kind (line_of_map (called x) line ALabel
+    (λ (x : List ℕ). x) xs d e).1 refl same)
 column_here x line (Measure part) d e same =
     absurd (other_kind AColumn AMeasure d.kind
     (line_of_map (called x) line AMeasure (λ (x : List ℕ). x) (part.name ∷ []) d e).1 refl same)
@@ -123,12 +132,14 @@ label_here x line (Test test) d e same = absurd (none-some d e)
 label_here x line (Aggregate goal) d e same = absurd (none-some d e)
 
 measure_here : (x : List ℕ) (line : ℕ) (kind : KindTree) (d : Declaration)
-    → find (called x) (declarations_of line kind) ≡ Some d → same_kind AMeasure d.kind ≡ true → IsIn x (measure_names kind)
+    → find (called x) (declarations_of line kind) ≡ Some d → same_kind AMeasure d.kind ≡ true
+    → IsIn x (measure_names kind)
 measure_here x line (Columns items) d e same =
     absurd (other_kind AMeasure AColumn d.kind
     (line_of_map (called x) line AColumn (λ (item : ColumnItem). item.name) items d e).1 refl same)
 measure_here x line (Labels xs) d e same =
-    absurd (other_kind AMeasure ALabel d.kind (line_of_map (called x) line ALabel (λ (x : List ℕ). x) xs d e).1 refl same)
+    absurd (other_kind AMeasure ALabel d.kind (line_of_map (called x) line ALabel
+    (λ (x : List ℕ). x) xs d e).1 refl same)
 measure_here x line (Measure part) d e same =
     named_in line AMeasure (λ (x : List ℕ). x) x (part.name ∷ []) d e
 measure_here x line (Table part) d e same =
@@ -141,13 +152,16 @@ measure_here x line (Aggregate goal) d e same = absurd (none-some d e)
 map-flat_map : {A B C : Type 0} (h : B → C) (f : A → List B) (xs : List A)
     → map h (flat_map f xs) ≡ flat_map (λ x. map h (f x)) xs
 map-flat_map h f [] = refl
-map-flat_map h f (x ∷ xs) = map-append h (f x) (flat_map f xs) ∙ ap (λ (ys : List _). map h (f x) ++ ys) (map-flat_map h f xs)
+map-flat_map h f (x ∷ xs) = map-append h (f x) (flat_map f xs)
+    ∙ ap (λ (ys : List _). map h (f x) ++ ys) (map-flat_map h f xs)
 
 pub column_in : (parts : List PartTree) (x : List ℕ) → is_of AColumn (declared_as parts x) ≡ true
     → IsIn x (environment parts).columns
 column_in parts x known =
-    subst (IsIn x) (sym (map-flat_map (λ (item : ColumnItem). item.name) (λ (part : PartTree). column_items part.kind) parts))
-    (declared_in AColumn (λ kind. map (λ (item : ColumnItem). item.name) (column_items kind)) x (column_here x) parts known)
+    subst (IsIn x) (sym (map-flat_map (λ (item : ColumnItem). item.name)
+    (λ (part : PartTree). column_items part.kind) parts))
+    (declared_in AColumn (λ kind. map (λ (item : ColumnItem). item.name) (column_items kind)) x
+    (column_here x) parts known)
 
 pub label_in : (parts : List PartTree) (x : List ℕ) → is_of ALabel (declared_as parts x) ≡ true
     → IsIn x (environment parts).labels

@@ -8,7 +8,8 @@ use Rattle.gta_checked.specs.declared.resolved.Test.{Test}
 use Rattle.gta_checked.specs.Plain.{PlainCase, plain_measure, plain_test, plain_checked}
 use Rattle.gta_types.specs.declared.lists.Lists.{Lists}
 use Rattle.gta_types.specs.declared.drafting.Draft.{Draft}
-use Rattle.gta_types.specs.Resolved.{Environment, environment, column_items, column_measure, declared_measures, tests_of, shapes_of, goals_of, IsResolved}
+use Rattle.gta_types.specs.Resolved.{Environment, environment, column_items, column_measure}
+use Rattle.gta_types.specs.Resolved.{declared_measures, tests_of, shapes_of, goals_of, IsResolved}
 use Rattle.gta_types.specs.Lists.{environment_of, IsDrafted}
 
 -- a draft with the measures of the columns alone
@@ -21,7 +22,8 @@ pub record IsFresh (columns : ℕ) (draft : Draft) : Type 0 where
 pub shapes_drafted : (env : Environment) (parts : List PartTree) (columns : ℕ) (old new : Draft) → IsFresh columns old
     → IsDrafted env parts old new → new.shapes.items ≡ flat_map (λ (part : PartTree). shapes_of part.kind) parts
 shapes_drafted env parts columns old new fresh drafted =
-    drafted.shapes ∙ ap (λ (xs : List Shape). xs ++ flat_map (λ (part : PartTree). shapes_of part.kind) parts) fresh.shapes
+    drafted.shapes ∙ ap (λ (xs : List Shape). xs ++ flat_map
+    (λ (part : PartTree). shapes_of part.kind) parts) fresh.shapes
 
 pub goals_drafted : (env : Environment) (parts : List PartTree) (columns : ℕ) (old new : Draft) → IsFresh columns old
     → env ≡ environment parts → IsDrafted env parts old new
@@ -37,17 +39,23 @@ pub is_resolved : (spec : SpecTree) (lists : Lists) (columns : ℕ) (old new : D
     → columns ≡ length (environment spec.parts).columns
     → IsFresh columns old → IsDrafted (environment_of lists) spec.parts old new
     → shape ∷ [] ≡ new.shapes.items → goal ∷ [] ≡ new.goals.items
-    → IsResolved spec (plain_checked spec.version lists.columns.items lists.labels.items new.measures.items new.tests.items shape goal)
+    → IsResolved spec (plain_checked spec.version lists.columns.items lists.labels.items
+    new.measures.items new.tests.items shape goal)
 is_resolved spec lists columns old new shape goal names items count fresh drafted one_shape one_goal = record {
   version = refl;
   columns = items;
   labels = ap (λ (e : Environment). e.labels) names;
   measures = drafted.measures
-      ∙ ap (λ (xs : List (List PlainCase)). xs ++ flat_map (λ (part : PartTree). declared_measures (environment_of lists) part.kind) spec.parts) fresh.measures
-      ∙ ap (λ (n : ℕ). map column_measure (range_with_len 0 n) ++ flat_map (λ (part : PartTree). declared_measures (environment_of lists) part.kind) spec.parts) count
-      ∙ ap (λ (e : Environment). map column_measure (range_with_len 0 (length (environment spec.parts).columns)) ++ flat_map (λ (part : PartTree). declared_measures e part.kind) spec.parts) names;
+      ∙ ap (λ (xs : List (List PlainCase)). xs ++ flat_map
+      (λ (part : PartTree). declared_measures (environment_of lists) part.kind) spec.parts) fresh.measures
+      ∙ ap (λ (n : ℕ). map column_measure (range_with_len 0 n) ++ flat_map
+      (λ (part : PartTree). declared_measures (environment_of lists) part.kind) spec.parts) count
+      ∙ ap (λ (e : Environment). map column_measure
+      (range_with_len 0 (length (environment spec.parts).columns)) ++ flat_map
+      (λ (part : PartTree). declared_measures e part.kind) spec.parts) names;
   tests = drafted.tests
-      ∙ ap (λ (xs : List Test). map plain_test xs ++ flat_map (λ (part : PartTree). tests_of (environment_of lists) part.kind) spec.parts) fresh.tests
+      ∙ ap (λ (xs : List Test). map plain_test xs ++ flat_map
+      (λ (part : PartTree). tests_of (environment_of lists) part.kind) spec.parts) fresh.tests
       ∙ ap (λ (e : Environment). flat_map (λ (part : PartTree). tests_of e part.kind) spec.parts) names;
   shape = one_shape ∙ shapes_drafted (environment_of lists) spec.parts columns old new fresh drafted;
   goal = one_goal ∙ goals_drafted (environment_of lists) spec.parts columns old new fresh names drafted;

@@ -1,5 +1,7 @@
 -- What an index of a specification's declarations has at a name is what the specification declares it as.
-use Rattle.std.proofs.Common.{◌≡◌, ℕ, ◌+◌, ◌<◌, ◌≤◌, ◌≢◌, Bool, true, false, ◌&&◌, ◌||◌, not, nat_eq, List, [], ◌∷◌, ◌++◌, map, Option, Some, None, is_some, option_map, cond, refl, sym, ap, ◌∙◌, inl, inr, ◌⊎◌, arith}
+use Rattle.std.proofs.Common.{◌≡◌, ℕ, ◌+◌, ◌<◌, ◌≤◌, ◌≢◌, Bool, true, false, ◌&&◌, ◌||◌, not}
+use Rattle.std.proofs.Common.{nat_eq, List, [], ◌∷◌, ◌++◌, map, Option, Some, None, is_some}
+use Rattle.std.proofs.Common.{option_map, cond, refl, sym, ap, ◌∙◌, inl, inr, ◌⊎◌, arith}
 use Rattle.std.specs.Option.{option_or}
 use Rattle.std.specs.List.{find, list_any}
 use Rattle.std.specs.Str.{bytes_eq}
@@ -7,16 +9,21 @@ use Rattle.std.proofs.lemmas.List.Folds.{find-append, list_any-append}
 use Rattle.std.proofs.lemmas.Bool.{eq-eqb, ne_eqb, false≢true, cases_Bool}
 use Rattle.std.proofs.lemmas.Option.{none-some, same_Some, cond_some}
 use Rattle.gta_spec.specs.declared.parts.ColumnItem.{ColumnItem}
-use Rattle.gta_spec.specs.Parts.{KindTree, Columns, Labels, Measure, Table, Times, Generate, Test, Aggregate, PartTree}
+use Rattle.gta_spec.specs.Parts.{KindTree, Columns, Labels, Measure, Table, Times, Generate, Test}
+use Rattle.gta_spec.specs.Parts.{Aggregate, PartTree}
 use Rattle.gta_spec.specs.WellFormed.{FitParts}
 use Rattle.spec_rules.specs.SpecRules.{or_else, first_answer}
 use Rattle.gta_types.specs.declared.declaring.NameKind.{NameKind}
 use Rattle.gta_types.specs.declared.declaring.NameKind.TheVariants.{AColumn, ALabel, AMeasure, ATable, AnElement}
 use Rattle.gta_types.specs.declared.names.Found.{Found}
 use Rattle.gta_types.specs.declared.names.Names.{Names}
-use Rattle.gta_types.specs.Names.{Declaration, declare, declarations_of, declarations, is_element, declaration_of, kind_of, Use, Wanted, is_one_of, table_elements, listed, elements_of, is_of, same_kind, declared_as, is_known, unknown_use, uses}
+use Rattle.gta_types.specs.Names.{Declaration, declare, declarations_of, declarations, is_element}
+use Rattle.gta_types.specs.Names.{declaration_of, kind_of, Use, Wanted, is_one_of, table_elements}
+use Rattle.gta_types.specs.Names.{listed, elements_of, is_of, same_kind, declared_as, is_known}
+use Rattle.gta_types.specs.Names.{unknown_use, uses}
 use Rattle.gta_types.specs.Names as names
-use Rattle.gta_types.specs.Index.{is_named, found_of, first_in, known_at, kind_at, has_element, known_by, used_place, unknown_in, IsIndex}
+use Rattle.gta_types.specs.Index.{is_named, found_of, first_in, known_at, kind_at, has_element}
+use Rattle.gta_types.specs.Index.{known_by, used_place, unknown_in, IsIndex}
 use Rattle.gta_types.proofs.Twice.{is_some-mapped_find, bytes_eq_swap}
 
 pub find_same : {A : Type 0} (p q : A → Bool) → ((x : A) → p x ≡ q x) → (xs : List A) → find p xs ≡ find q xs
@@ -32,7 +39,8 @@ named_shared x d =
     ap (λ (b : Bool). b && bytes_eq x d.name) (shared_scope (is_element d.kind) d.line)
     ∙ ap (λ (b : Bool). not (is_element d.kind) && b) (bytes_eq_swap x d.name)
 
-pub first_in-shared : (all : List Declaration) (x : List ℕ) → first_in all 0 x ≡ option_map found_of (declaration_of all x)
+pub first_in-shared : (all : List Declaration) (x : List ℕ)
+    → first_in all 0 x ≡ option_map found_of (declaration_of all x)
 unfolding first_in
 first_in-shared all x = ap (option_map found_of) (find_same (is_named 0 x) _ (named_shared x) all)
 
@@ -46,7 +54,8 @@ list_any_none_map : {A B : Type 0} (p : B → Bool) (f : A → B) → ((x : A) �
 list_any_none_map p f none [] = refl
 list_any_none_map p f none (x ∷ xs) = rw (none x, list_any_none_map p f none xs) refl
 
-apart : (l line : ℕ) (x name : List ℕ) (kind : NameKind) → l ≢ line → is_named (l + 1) x (declare line kind name) ≡ false
+apart : (l line : ℕ) (x name : List ℕ) (kind : NameKind) → l ≢ line
+    → is_named (l + 1) x (declare line kind name) ≡ false
 apart l line x name kind ne = other (is_element kind)
   where
     other : (e : Bool) → (nat_eq (l + 1) (cond e (line + 1) 0) && bytes_eq x name) ≡ false
@@ -67,7 +76,8 @@ none_of_line l line x (Labels xs) ne =
 none_of_line l line x (Measure part) ne = rw (apart l line x part.name AMeasure ne) refl
 none_of_line l line x (Table part) ne =
     rw (apart l line x part.name ATable ne)
-    (list_any_none_map (is_named (l + 1) x) (declare line AnElement) (λ name. apart l line x name AnElement ne) part.elements)
+    (list_any_none_map (is_named (l + 1) x) (declare line AnElement)
+    (λ name. apart l line x name AnElement ne) part.elements)
 none_of_line l line x (Times part) ne = refl
 none_of_line l line x (Generate shape) ne = refl
 none_of_line l line x (Test test) ne = refl
@@ -88,9 +98,14 @@ pub line_of_map : {A : Type 0} (p : Declaration → Bool) (line : ℕ) (kind : N
     (d : Declaration) → find p (map (λ x. declare line kind (f x)) xs) ≡ Some d → (d.line ≡ line) × (d.kind ≡ kind)
 line_of_map p line kind f [] d e = absurd (none-some d e)
 line_of_map p line kind f (x ∷ xs) d e =
-    elim (p (declare line kind (f x))) as (λ b. cond b (Some (declare line kind (f x))) (find p (map (λ x. declare line kind (f x)) xs)) ≡ Some d
+    elim (p (declare line kind (f x))) as (λ b. cond b (Some (declare line kind (f x)))
+    (find p (map (λ x. declare line kind (f x)) xs)) ≡ Some d
     → (d.line ≡ line) × (d.kind ≡ kind)) [
-      | true ↦ (λ h. let s = same_Some _ _ h in (ap (λ (x : Declaration). x.line) (sym s), ap (λ (x : Declaration). x.kind) (sym s)))
+      | true ↦ (λ h. let s = same_Some _ _ h in (
+        ap (λ (x : Declaration). x.line) (sym s),
+        ap
+            (λ (x : Declaration). x.kind) (sym s),
+      ))
       | false ↦ (λ h. line_of_map p line kind f xs d h)
     ] e
 
@@ -147,7 +162,8 @@ no_table_here line (Columns items) t e = refl
 no_table_here line (Labels xs) t e = refl
 no_table_here line (Measure part) t e = refl
 no_table_here line (Table part) t e =
-    elim (bytes_eq part.name t) as (λ b. cond b (Some (declare line ATable part.name)) (find (called t) (map (declare line AnElement) part.elements)) ≡ None
+    elim (bytes_eq part.name t) as (λ b. cond b (Some (declare line ATable part.name))
+    (find (called t) (map (declare line AnElement) part.elements)) ≡ None
     → cond b (Some part.elements) None ≡ None) [
       | true ↦ (λ h. absurd (none-some _ (sym h)))
       | false ↦ (λ h. refl)
@@ -163,7 +179,8 @@ line_here p line (Columns items) d e = (line_of_map p line AColumn (λ (item : C
 line_here p line (Labels xs) d e = (line_of_map p line ALabel (λ x. x) xs d e).0
 line_here p line (Measure part) d e = (line_of_map p line AMeasure (λ (x : List ℕ). x) (part.name ∷ []) d e).0
 line_here p line (Table part) d e =
-    elim (p (declare line ATable part.name)) as (λ b. cond b (Some (declare line ATable part.name)) (find p (map (declare line AnElement) part.elements)) ≡ Some d
+    elim (p (declare line ATable part.name)) as (λ b. cond b (Some (declare line ATable part.name))
+    (find p (map (declare line AnElement) part.elements)) ≡ Some d
     → d.line ≡ line) [
       | true ↦ (λ h. ap (λ (x : Declaration). x.line) (sym (same_Some _ _ h)))
       | false ↦ (λ h. (line_of_map p line AnElement (λ (x : List ℕ). x) part.elements d h).0)
@@ -186,7 +203,8 @@ line_after p low (part ∷ parts) d fits e =
     sym (find-append p (declarations_of part.line part.kind) (declarations parts)) ∙ e in
     elim (option_cases here) [
       | inl none ↦ (let later : find p (declarations parts) ≡ Some d = rw none at joined in
-          let after : part.line + 1 ≤ d.line = line_after p (part.line + 1) parts d fits.2 later in omega (arith, fits.0))
+          let after : part.line + 1 ≤ d.line = line_after p (part.line + 1) parts d fits.2 later in omega
+          (arith, fits.0))
       | inr some ↦ (let found : Some some.0 ≡ Some d = rw some.1 at joined in
           let line : d.line ≡ part.line = ap (λ (x : Declaration). x.line) (sym (same_Some _ _ found))
           ∙ line_here p part.line part.kind some.0 some.1 in omega (arith, fits.0))
@@ -195,7 +213,8 @@ line_after p low (part ∷ parts) d fits e =
 pub elements_found : (t x : List ℕ) (low : ℕ) (before parts : List PartTree) (d : Declaration) → FitParts low parts
     → find (called t) (declarations parts) ≡ Some d → same_kind ATable d.kind ≡ true
     → list_any (is_named (d.line + 1) x) (declarations parts)
-    ≡ is_one_of (listed (first_answer (λ (before : List PartTree) (part : PartTree). table_elements part.kind t) before parts)) x
+    ≡ is_one_of (listed (first_answer (λ (before : List PartTree)
+    (part : PartTree). table_elements part.kind t) before parts)) x
 elements_found t x low before [] d fits e same = absurd (none-some d e)
 elements_found t x low before (part ∷ parts) d fits e same =
     let ds = declarations_of part.line part.kind in

@@ -1,5 +1,7 @@
 -- What holds of each line, and of the lines together, where no rule is broken.
-use Rattle.std.proofs.Common.{◌≡◌, ℕ, ◌+◌, ◌≤◌, Bool, true, false, ◌&&◌, ◌||◌, List, [], ◌∷◌, ◌++◌, filter, length, Option, Some, None, option_map, cond, refl, sym, ap, ◌∙◌, inl, inr, append_assoc, subst, leb, arith}
+use Rattle.std.proofs.Common.{◌≡◌, ℕ, ◌+◌, ◌≤◌, Bool, true, false, ◌&&◌, ◌||◌, List, [], ◌∷◌, ◌++◌}
+use Rattle.std.proofs.Common.{filter, length, Option, Some, None, option_map, cond, refl, sym, ap}
+use Rattle.std.proofs.Common.{◌∙◌, inl, inr, append_assoc, subst, leb, arith}
 use Rattle.std.specs.List.{find, list_any, flat_map}
 use Rattle.std.proofs.lemmas.List.{append-nil, length-append}
 use Rattle.std.proofs.lemmas.List.Folds.{list_any-append}
@@ -11,7 +13,8 @@ use Rattle.spec_rules.specs.declared.fault.SinglePart.{SinglePart}
 use Rattle.spec_rules.specs.declared.fault.SinglePart.TheVariants as singles
 use Rattle.spec_rules.specs.declared.fault.Limit.{Limit}
 use Rattle.spec_rules.specs.declared.fault.Limit.TheVariants as limits
-use Rattle.spec_rules.specs.SpecRules.{or_else, first_answer, single_of, is_the, is_single, is_past, all_limits, limit_at, second_at, earlier}
+use Rattle.spec_rules.specs.SpecRules.{or_else, first_answer, single_of, is_the, is_single, is_past}
+use Rattle.spec_rules.specs.SpecRules.{all_limits, limit_at, second_at, earlier}
 
 pub or_else_none : {A : Type 0} (x y : Option A) → or_else x y ≡ None → (x ≡ None) × (y ≡ None)
 or_else_none None y e = (refl, e)
@@ -99,7 +102,8 @@ module _ (is_kind : KindTree → Bool) (limit : ℕ)
   few_lines parts kept = few_from [] parts kept (omega arith)
 
   -- a list with one item for each line of the kind
-  pub length_lines : {A : Type 0} (g : KindTree → List A) → ((kind : KindTree) → length (g kind) ≡ cond (is_kind kind) 1 0)
+  pub length_lines : {A : Type 0} (g : KindTree → List A)
+      → ((kind : KindTree) → length (g kind) ≡ cond (is_kind kind) 1 0)
       → (parts : List PartTree) → length (flat_map (λ (part : PartTree). g part.kind) parts)
       ≡ length (filter (λ line. is_kind line.kind) parts)
   length_lines g one [] = refl
@@ -137,7 +141,8 @@ all_once before (part ∷ parts) e =
     once before part each singles.Aggregate = each.1.1.1.0
 
 -- the one line that is a part, of which g gives nothing elsewhere
-pub record IsOnly {A : Type 0} (P : PartTree → Type 0) (single : SinglePart) (g : KindTree → List A) (parts : List PartTree) : Type 0 where
+pub record IsOnly {A : Type 0} (P : PartTree → Type 0) (single : SinglePart) (g : KindTree → List A)
+    (parts : List PartTree) : Type 0 where
   pub line : PartTree
   pub is : is_single single line ≡ true
   pub fits : P line
@@ -164,7 +169,8 @@ module _ {A : Type 0} (single : SinglePart) (g : KindTree → List A)
   the_only P before (part ∷ parts) once fits there =
       elim (cases_Bool (is_single single part)) [
         | inl h ↦ (let seen : list_any (is_single single) (before ++ part ∷ []) ≡ true =
-            list_any-append (is_single single) before (part ∷ []) ∙ rw h (or_true (list_any (is_single single) before)) in
+            list_any-append (is_single single) before (part ∷ [])
+            ∙ rw h (or_true (list_any (is_single single) before)) in
             record {
               line = part;
               is = h;

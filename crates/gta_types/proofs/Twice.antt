@@ -1,5 +1,7 @@
 -- An index after one more declaration, and the first name declared twice. Of any declarations.
-use Rattle.std.proofs.Common.{◌≡◌, ℕ, ◌+◌, Bool, true, false, ◌&&◌, nat_eq, List, [], ◌∷◌, ◌++◌, Option, Some, None, is_some, option_map, cond, not, ◌||◌, inl, inr, refl, sym, ap, ◌∙◌, append_assoc, arith}
+use Rattle.std.proofs.Common.{◌≡◌, ℕ, ◌+◌, Bool, true, false, ◌&&◌, nat_eq, List, [], ◌∷◌, ◌++◌}
+use Rattle.std.proofs.Common.{Option, Some, None, is_some, option_map, cond, not, ◌||◌, inl, inr}
+use Rattle.std.proofs.Common.{refl, sym, ap, ◌∙◌, append_assoc, arith}
 use Rattle.std.specs.Option.{option_or}
 use Rattle.std.specs.List.{find, list_any}
 use Rattle.std.specs.Str.{bytes_eq}
@@ -100,7 +102,8 @@ pub first_answer-append : {A B : Type 0} (ask : List A → A → Option B) (befo
 first_answer-append ask before [] ys = ap (λ (b : List _). first_answer ask b ys) (sym (append-nil before))
 first_answer-append ask before (x ∷ xs) ys =
     ap (or_else (ask before x)) (first_answer-append ask (before ++ x ∷ []) xs ys
-    ∙ ap (λ (b : List _). or_else (first_answer ask (before ++ x ∷ []) xs) (first_answer ask b ys)) (append_assoc before (x ∷ []) xs))
+    ∙ ap (λ (b : List _). or_else (first_answer ask (before ++ x ∷ []) xs) (first_answer ask b ys))
+    (append_assoc before (x ∷ []) xs))
     ∙ sym (or_else-assoc (ask before x) _ _)
 
 declared_twice-push : (all : List Declaration) (d : Declaration)
@@ -117,7 +120,8 @@ pub index_more : (names after : Names) (all : List Declaration) (d : Declaration
 index_more names after all d t y v known at_scope at_name is_found added = λ s x.
     added s x
     ∙ rw (at_scope, at_name, is_found) refl
-    ∙ ap (λ (o : Option Found). option_or o (cond (nat_eq s (scope_of d) && bytes_eq x d.name) (Some (found_of d)) None)) (known s x)
+    ∙ ap (λ (o : Option Found). option_or o (cond (nat_eq s (scope_of d) && bytes_eq x d.name)
+    (Some (found_of d)) None)) (known s x)
     ∙ sym (first_in-push all d s x)
 
 pub twice_more : (names : Names) (all : List Declaration) (d : Declaration) (again : Bool) (t : ℕ) (y : List ℕ)

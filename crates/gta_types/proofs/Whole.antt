@@ -1,5 +1,7 @@
 -- What holds of a specification without a fault, and that its resolved form is within the limits.
-use Rattle.std.proofs.Common.{◌≡◌, ◌↔◌, ℕ, ◌≤◌, Bool, true, false, ◌||◌, not, List, [], ◌∷◌, map, length, get_or, Option, Some, None, is_some, cond, refl, sym, ap, ◌∙◌, inl, inr, subst, arith}
+use Rattle.std.proofs.Common.{◌≡◌, ◌↔◌, ℕ, ◌≤◌, Bool, true, false, ◌||◌, not, List, [], ◌∷◌, map}
+use Rattle.std.proofs.Common.{length, get_or, Option, Some, None, is_some, cond, refl, sym, ap, ◌∙◌}
+use Rattle.std.proofs.Common.{inl, inr, subst, arith}
 use Rattle.std.specs.List.{list_any, flat_map}
 use Rattle.std.proofs.lemmas.List.{length-map}
 use Rattle.std.proofs.lemmas.List.Folds.{list_any-append}
@@ -9,29 +11,34 @@ use Rattle.shape_gen.specs.declared.shape.Shape.{Shape}
 use Rattle.shape_gen.specs.declared.shape.Shape.TheVariants.{Sublists, Assign, Prefixes, Suffixes, Segments}
 use Rattle.gta_spec.specs.declared.limits.TheConstants.{COLUMN_LIMIT, LABEL_LIMIT}
 use Rattle.gta_spec.specs.declared.parts.Part.{Part}
-use Rattle.gta_spec.specs.Parts.{KindTree, Columns, Labels, Measure, Table, Times, Generate, Test, Aggregate, PartTree, SpecTree, part_tree, kind_tree}
+use Rattle.gta_spec.specs.Parts.{KindTree, Columns, Labels, Measure, Table, Times, Generate, Test}
+use Rattle.gta_spec.specs.Parts.{Aggregate, PartTree, SpecTree, part_tree, kind_tree}
 use Rattle.gta_spec.specs.WellFormed.{EachFits, IsWellFormed}
 use Rattle.gta_checked.specs.declared.resolved.Goal.{Goal}
 use Rattle.gta_checked.specs.Plain.{PlainChecked}
 use Rattle.gta_checked.specs.Within.{IsGoalWithin, IsWithinLimits}
 use Rattle.spec_rules.specs.declared.fault.SinglePart.TheVariants as singles
 use Rattle.spec_rules.specs.declared.fault.Limit.TheVariants as limits
-use Rattle.spec_rules.specs.SpecRules.{single_of, is_the, is_single, first_line, labels_assign_of, labels_assign, rule_fault, is_assign, is_table}
+use Rattle.spec_rules.specs.SpecRules.{single_of, is_the, is_single, first_line, labels_assign_of}
+use Rattle.spec_rules.specs.SpecRules.{labels_assign, rule_fault, is_assign, is_table}
 use Rattle.gta_types.specs.declared.fault.CheckFault.{CheckFault}
 use Rattle.gta_types.specs.Names.{Use, is_known, uses}
-use Rattle.gta_types.specs.Resolved.{column_items, label_names, table_parts, environment, shapes_of, goals_of, resolved_goal, measures_of, IsResolved}
+use Rattle.gta_types.specs.Resolved.{column_items, label_names, table_parts, environment, shapes_of}
+use Rattle.gta_types.specs.Resolved.{goals_of, resolved_goal, measures_of, IsResolved}
 use Rattle.gta_types.specs.Ready.{IsReady}
 use Rattle.gta_types.specs.Lists.{HasFewNames}
 use Rattle.gta_types.specs.Faults.{check_fault, fault_of_rule}
 use Rattle.gta_types.proofs.FirstFault.{no_name_fault}
 use Rattle.gta_types.proofs.Twice.{is_some-mapped_find}
-use Rattle.gta_types.proofs.Rules.{or_else_none, mapped_none, none_found, AllKept, all_kept, AllOnce, all_once, IsOnly, the_only, none_there}
+use Rattle.gta_types.proofs.Rules.{or_else_none, mapped_none, none_found, AllKept, all_kept}
+use Rattle.gta_types.proofs.Rules.{AllOnce, all_once, IsOnly, the_only, none_there}
 use Rattle.gta_types.proofs.Within.{column_count, label_count, or_false_parts}
-use Rattle.gta_types.proofs.Accepted.{LineFacts, line_facts, few_measure_names, few_tests, measures_length, all_measures, all_tests, goal_of_line}
+use Rattle.gta_types.proofs.Accepted.{LineFacts, Facts, line_facts, few_measure_names, few_tests}
+use Rattle.gta_types.proofs.Accepted.{measures_length, all_measures, all_tests, goal_of_line}
 
 -- what holds of lines without a fault
 pub record IsSound (parts : List PartTree) : Type 0 where
-  pub facts : EachFits (λ (part : PartTree). LineFacts parts part.line part.kind) parts
+  pub facts : EachFits (Facts parts) parts
   pub kept : AllKept [] parts
   pub once : AllOnce [] parts
   pub has_columns : list_any (is_single singles.Columns) parts ≡ true
@@ -110,9 +117,6 @@ no_goals_else all (Generate shape) e = refl
 no_goals_else all (Test test) e = refl
 no_goals_else all (Aggregate goal) e = absurd (false≢true (sym e))
 
-abbrev Facts : List PartTree → PartTree → Type 0
-Facts all part = LineFacts all part.line part.kind
-
 few_items : (all : List PartTree) (line : ℕ) (kind : KindTree) → is_the singles.Columns (single_of kind) ≡ true
     → LineFacts all line kind → length (column_items kind) ≤ COLUMN_LIMIT
 few_items all line (Columns items) is facts = ltb-false COLUMN_LIMIT (length items) (facts.kept limits.Columns)
@@ -181,20 +185,24 @@ no_table_parts (part ∷ parts) e =
 
 module _ (all : List PartTree) (sound : IsSound all) where
   pub the_columns : IsOnly (Facts all) singles.Columns column_items all
-  the_columns = the_only singles.Columns column_items no_columns_else (Facts all) [] all sound.once sound.facts sound.has_columns
+  the_columns = the_only singles.Columns column_items no_columns_else
+      (Facts all) [] all sound.once sound.facts sound.has_columns
 
   pub the_shape : IsOnly (Facts all) singles.Generate shapes_of all
-  the_shape = the_only singles.Generate shapes_of no_shapes_else (Facts all) [] all sound.once sound.facts sound.has_generate
+  the_shape = the_only singles.Generate shapes_of no_shapes_else
+      (Facts all) [] all sound.once sound.facts sound.has_generate
 
   pub the_goal : IsOnly (Facts all) singles.Aggregate (goals_of (environment all)) all
-  the_goal = the_only singles.Aggregate (goals_of (environment all)) (no_goals_else all) (Facts all) [] all sound.once sound.facts sound.has_aggregate
+  the_goal = the_only singles.Aggregate (goals_of (environment all)) (no_goals_else all)
+      (Facts all) [] all sound.once sound.facts sound.has_aggregate
 
   pub few_columns : column_count all ≤ COLUMN_LIMIT
   few_columns =
       let few = few_items all the_columns.line.line the_columns.line.kind the_columns.is the_columns.fits in
       let e = ap (λ (xs : List _). length xs) the_columns.only in omega (arith, few, e)
 
-  pub labels_there : list_any (is_single singles.Labels) all ≡ true → (1 ≤ label_count all) × (label_count all ≤ LABEL_LIMIT)
+  pub labels_there : list_any (is_single singles.Labels) all ≡ true
+      → (1 ≤ label_count all) × (label_count all ≤ LABEL_LIMIT)
   labels_there there =
       let only = the_only singles.Labels label_names no_labels_else (Facts all) [] all sound.once sound.facts there in
       let some = some_labels all only.line.line only.line.kind only.is only.fits in
@@ -202,7 +210,8 @@ module _ (all : List PartTree) (sound : IsSound all) where
       (omega (arith, some.0, e), omega (arith, some.1, e))
 
   pub no_labels : list_any (is_single singles.Labels) all ≡ false → label_count all ≡ 0
-  no_labels there = ap (λ (xs : List (List ℕ)). length xs) (none_there singles.Labels label_names no_labels_else all there)
+  no_labels there = ap (λ (xs : List (List ℕ)). length xs)
+      (none_there singles.Labels label_names no_labels_else all there)
 
   pub few_labels : label_count all ≤ LABEL_LIMIT
   few_labels =
@@ -256,7 +265,8 @@ any_assign [] = refl
 any_assign (part ∷ parts) =
     ap (λ (b : Bool). b || list_any (λ (part : PartTree). is_assign part.kind) parts) (assign_of_shapes part.kind)
     ∙ ap (λ (b : Bool). list_any is_assign_shape (shapes_of part.kind) || b) (any_assign parts)
-    ∙ sym (list_any-append is_assign_shape (shapes_of part.kind) (flat_map (λ (part : PartTree). shapes_of part.kind) parts))
+    ∙ sym (list_any-append is_assign_shape (shapes_of part.kind)
+    (flat_map (λ (part : PartTree). shapes_of part.kind) parts))
 
 same_there : (a b : Option ℕ) → labels_assign_of a b ≡ None → is_some a ≡ is_some b
 same_there None None e = refl

@@ -1,11 +1,14 @@
 -- A line that is well formed, passes no limit and uses known names is within the limits once its names are resolved.
-use Rattle.std.proofs.Common.{◌≡◌, ℕ, zero, suc, ◌<◌, Bool, true, false, ◌||◌, not, nat_lt, List, [], ◌∷◌, ◌++◌, map, length, Option, Some, None, option_map, All, pos, negsuc, nat_abs, cond, refl, sym, arith}
+use Rattle.std.proofs.Common.{◌≡◌, ℕ, zero, suc, ◌<◌, Bool, true, false, ◌||◌, not, nat_lt, List}
+use Rattle.std.proofs.Common.{[], ◌∷◌, ◌++◌, map, length, Option, Some, None, option_map, All, pos}
+use Rattle.std.proofs.Common.{negsuc, nat_abs, cond, refl, sym, arith}
 use Rattle.std.specs.List.{list_any, flat_map}
 use Rattle.std.proofs.lemmas.List.{length-map}
 use Rattle.std.proofs.lemmas.List.Elements.{All-nil, All-cons}
 use Rattle.std.proofs.lemmas.Bool.{false≢true, ltb-false, leb-false, not-false}
 use Rattle.std.proofs.lemmas.Int.{ints}
-use Rattle.gta_spec.specs.declared.limits.TheConstants.{ATOM_LIMIT, BOUND_LIMIT, FACTOR_LIMIT, MODULUS_LIMIT, TERM_LIMIT}
+use Rattle.gta_spec.specs.declared.limits.TheConstants.{ATOM_LIMIT, BOUND_LIMIT, FACTOR_LIMIT}
+use Rattle.gta_spec.specs.declared.limits.TheConstants.{MODULUS_LIMIT, TERM_LIMIT}
 use Rattle.gta_spec.specs.declared.parts.TermPart.{TermPart}
 use Rattle.gta_spec.specs.declared.parts.AtomPart.{AtomPart}
 use Rattle.gta_spec.specs.declared.parts.AtomPart.TheVariants as atom_parts
@@ -14,9 +17,12 @@ use Rattle.gta_spec.specs.declared.parts.Check.TheVariants.{Compare, Mod}
 use Rattle.gta_spec.specs.Parts.{CaseTree, PartTree}
 use Rattle.gta_spec.specs.WellFormed.{EachFits, FitsQuantity, FitsTerm, FitsCase}
 use Rattle.gta_checked.specs.Within.{IsFactorWithin, IsTermWithin, IsAtomWithin, IsCaseWithin, IsCheckWithin}
-use Rattle.spec_rules.specs.SpecRules.{is_longer, case_forms, case_conditions, is_quantity_past, is_factor_past, is_bound_past, is_modulus_past, is_residue_past}
+use Rattle.spec_rules.specs.SpecRules.{is_longer, case_forms, case_conditions, is_quantity_past}
+use Rattle.spec_rules.specs.SpecRules.{is_factor_past, is_bound_past, is_modulus_past}
+use Rattle.spec_rules.specs.SpecRules.{is_residue_past}
 use Rattle.gta_types.specs.Names.{Use, Column, use_as, is_known, uses_of_term, use_of_atom, uses_of_case}
-use Rattle.gta_types.specs.Resolved.{number_of, column_items, environment, signed, factor_of, resolved_term, resolved_atom, resolved_case}
+use Rattle.gta_types.specs.Resolved.{number_of, column_items, environment, signed, factor_of}
+use Rattle.gta_types.specs.Resolved.{resolved_term, resolved_atom, resolved_case}
 use Rattle.gta_types.proofs.InRange.{column_in, label_in}
 
 -- a name is declared for its use
@@ -47,7 +53,8 @@ nat_abs-signed true (suc n) = refl
 nat_abs-signed false n = refl
 
 module _ (all : List PartTree) (line : ℕ) where
-  column_within : (x : List ℕ) → Known all (use_as line Column x) → number_of (environment all).columns x < column_count all
+  column_within : (x : List ℕ) → Known all (use_as line Column x)
+      → number_of (environment all).columns x < column_count all
   column_within x known =
       let within = column_in all x (not-false _ known) in
       let len = length-map (flat_map (λ (part : PartTree). column_items part.kind) all) (λ item. item.name) in
@@ -55,7 +62,8 @@ module _ (all : List PartTree) (line : ℕ) where
 
   factor_within : (minus : Bool) (number : Option ℕ) (name : Option (List ℕ)) → FitsQuantity number name
       → is_quantity_past number name ≡ false → EachFits (Known all) (uses_of_term line name)
-      → IsFactorWithin (column_count all) (signed minus (factor_of number)) (option_map (number_of (environment all).columns) name)
+      → IsFactorWithin (column_count all) (signed minus (factor_of number))
+      (option_map (number_of (environment all).columns) name)
   factor_within minus None None fits past known = absurd fits
   factor_within minus None (Some x) fits past known =
       (column_within x known.0, (let e = nat_abs-signed minus 1 in omega arith))
@@ -71,7 +79,8 @@ module _ (all : List PartTree) (line : ℕ) where
   terms_within [] fits past known = All-nil (IsTermWithin (column_count all))
   terms_within (term ∷ form) fits past known =
       let past_parts = or_false_parts (is_factor_past term) (list_any is_factor_past form) past in
-      All-cons (IsTermWithin (column_count all)) (resolved_term (environment all) term) (map (resolved_term (environment all)) form)
+      All-cons (IsTermWithin (column_count all)) (resolved_term (environment all) term)
+      (map (resolved_term (environment all)) form)
       (factor_within term.minus term.number term.name fits.0 past_parts.0
       (each_front (Known all) (uses_of_term line term.name) _ known))
       (terms_within form fits.1 past_parts.1 (each_back (Known all) (uses_of_term line term.name) _ known))

@@ -1,5 +1,6 @@
 -- The first declarations of names, looked up by scope and name.
-use Rattle.std.specs.Prelude.{◌≡◌, ℕ, ◌+◌, Bool, true, ◌&&◌, ◌||◌, not, List, Some, None, is_some, Option, option_map, nat_eq, if◌then◌else◌}
+use Rattle.std.specs.Prelude.{◌≡◌, ℕ, ◌+◌, Bool, true, ◌&&◌, ◌||◌, not, List, Some, None, is_some}
+use Rattle.std.specs.Prelude.{Option, option_map, nat_eq, if◌then◌else◌}
 use Rattle.std.specs.Str.{bytes_eq}
 use Rattle.std.specs.List.{find}
 use Rattle.std.specs.HashMap.{get_by}
@@ -10,7 +11,8 @@ use Rattle.gta_types.specs.declared.names.Names.{Names}
 use Rattle.gta_types.specs.declared.names.Place.{Place}
 use Rattle.gta_types.specs.declared.uses.Wanted.{Wanted as WantedPart}
 use Rattle.gta_types.specs.declared.uses.Wanted.TheVariants as wants
-use Rattle.gta_types.specs.Names.{Declaration, is_element, Use, Wanted, Column, Label, Weight, TableName, ElementOf, OneOf}
+use Rattle.gta_types.specs.Names.{Declaration, is_element, Use, Wanted, Column, Label, Weight}
+use Rattle.gta_types.specs.Names.{TableName, ElementOf, OneOf}
 use Rattle.gta_types.specs.declared.declaring.NameKind.TheVariants.{AColumn, ALabel, AMeasure, ATable}
 use Rattle.gta_types.specs.Names.{is_of, is_one_of}
 
@@ -54,7 +56,8 @@ kind_at names x = option_map (λ found. found.kind) (known_at names 0 x)
 -- whether an index has an element of a table, passed over where that is no table
 abbrev pub has_element : Names → Option Found → List ℕ → Bool
 has_element names None x = true
-has_element names (Some table) x = if is_of ATable (Some table.kind) then is_some (known_at names (table.line + 1) x) else true
+has_element names (Some table) x =
+    if is_of ATable (Some table.kind) then is_some (known_at names (table.line + 1) x) else true
 
 -- whether a name is declared for a use, as an index has it
 abbrev pub known_by : Names → Wanted → List ℕ → Bool

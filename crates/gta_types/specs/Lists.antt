@@ -40,7 +40,8 @@ pub record HasFewNames (parts : List PartTree) : Type 0 where
 
 -- one line's share is drafted beside what was
 pub record IsDraftedMore (env : Environment) (kind : KindTree) (old new : Draft) : Type 0 where
-  pub measures : map plain_measure new.measures.items ≡ map plain_measure old.measures.items ++ declared_measures env kind
+  pub measures : map plain_measure new.measures.items
+      ≡ map plain_measure old.measures.items ++ declared_measures env kind
   pub tests : map plain_test new.tests.items ≡ map plain_test old.tests.items ++ tests_of env kind
   pub shapes : new.shapes.items ≡ old.shapes.items ++ shapes_of kind
   pub goals : new.goals.items ≡ old.goals.items ++ goals_of env kind

@@ -1,5 +1,6 @@
 -- The names that a specification declares and uses.
-use Rattle.std.specs.Prelude.{ℕ, Bool, true, false, ◌&&◌, ◌||◌, not, List, [], ◌∷◌, ◌++◌, map, nat_eq, Option, Some, None}
+use Rattle.std.specs.Prelude.{ℕ, Bool, true, false, ◌&&◌, ◌||◌, not, List, [], ◌∷◌, ◌++◌, map}
+use Rattle.std.specs.Prelude.{nat_eq, Option, Some, None}
 use Rattle.std.specs.Prelude.{if◌then◌else◌}
 use Rattle.std.specs.Str.{bytes_eq}
 use Rattle.std.specs.List.{list_any, find, flat_map}
@@ -7,7 +8,8 @@ use Rattle.gta_spec.specs.declared.parts.AtomPart.{AtomPart}
 use Rattle.gta_spec.specs.declared.parts.AtomPart.TheVariants as atoms
 use Rattle.gta_spec.specs.declared.parts.GoalPart.{GoalPart}
 use Rattle.gta_spec.specs.declared.parts.GoalPart.TheVariants as goals
-use Rattle.gta_spec.specs.Parts.{CaseTree, PickTree, TestTree, Sum, Length, Fold, KindTree, Columns, Labels, Measure, Table}
+use Rattle.gta_spec.specs.Parts.{CaseTree, PickTree, TestTree, Sum, Length, Fold, KindTree, Columns}
+use Rattle.gta_spec.specs.Parts.{Labels, Measure, Table}
 use Rattle.gta_spec.specs.Parts.{Times, Test, Aggregate, PartTree}
 use Rattle.spec_rules.specs.SpecRules.{first_answer}
 use Rattle.gta_types.specs.declared.declaring.NameKind.{NameKind}
@@ -46,7 +48,8 @@ abbrev pub is_element : NameKind → Bool
 is_element AnElement = true
 is_element _ = false
 
--- whether two names may not be the same: the elements of one table, which stand on one line, or names that are no elements
+-- whether two names may not be the same: elements of one table, which stand on one line, or names that
+-- are no elements
 abbrev pub share_names : Declaration → Declaration → Bool
 share_names a b =
     if is_element a.kind then is_element b.kind && nat_eq a.line b.line else not (is_element b.kind)

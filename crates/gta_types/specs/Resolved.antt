@@ -1,5 +1,6 @@
 -- A specification with each name replaced by its number.
-use Rattle.std.specs.Prelude.{◌≡◌, ℕ, Bool, true, false, ℤ, pos, neg_ℤ, List, [], ◌∷◌, ◌++◌, map, length, Option, Some, None}
+use Rattle.std.specs.Prelude.{◌≡◌, ℕ, Bool, true, false, ℤ, pos, neg_ℤ, List, [], ◌∷◌, ◌++◌, map}
+use Rattle.std.specs.Prelude.{length, Option, Some, None}
 use Rattle.std.specs.Prelude.{option_map}
 use Rattle.std.specs.Str.{bytes_eq}
 use Rattle.std.specs.List.{find, flat_map, position_or_len, range_with_len}
@@ -10,7 +11,8 @@ use Rattle.gta_spec.specs.declared.parts.ColumnItem.{ColumnItem}
 use Rattle.gta_spec.specs.declared.parts.GoalPart.{GoalPart}
 use Rattle.gta_spec.specs.declared.parts.GoalPart.TheVariants as goal_parts
 use Rattle.gta_spec.specs.declared.parts.TermPart.{TermPart}
-use Rattle.gta_spec.specs.Parts.{CaseTree, TableTree, PickTree, TestTree, Sum, Length, Fold, KindTree, Columns, Labels, Measure, Table}
+use Rattle.gta_spec.specs.Parts.{CaseTree, TableTree, PickTree, TestTree, Sum, Length, Fold}
+use Rattle.gta_spec.specs.Parts.{KindTree, Columns, Labels, Measure, Table}
 use Rattle.gta_spec.specs.Parts.{Generate, Test, Aggregate, PartTree, SpecTree}
 use Rattle.gta_checked.specs.declared.resolved.Term.{Term}
 use Rattle.gta_checked.specs.declared.resolved.Atom.{Atom}

@@ -18,8 +18,8 @@ use spec_rules::{Limit, RuleFault, SinglePart, rule_fault};
 use std::alloc::{AllocError, Global};
 
 /// The specification with its names resolved to numbers.
-/// Of several faults the first in their order is answered: unknown names, names declared twice, missing parts, second
-/// parts, labels and assignments, limits.
+/// Of several faults the first in their order is answered: unknown names, names declared twice, missing parts,
+/// second parts, labels and assignments, limits, tables. Takes memory for an index of the declared names.
 pub fn check(alloc: Global, spec: &Spec) -> Result<Checked, CheckFault>
     requires well_formed { IsWellFormed (spec_tree spec.now) }
     ensures resolved { IfOk result (IsResolved (spec_tree spec.now)) }

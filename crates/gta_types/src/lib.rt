@@ -1,5 +1,6 @@
-//! Checks a specification and resolves its names to numbers. Which names are declared and used is in specs/Names.antt,
-//! what a name becomes is in specs/Resolved.antt, and the faults in their order are in specs/Faults.antt.
+//! Checks a specification and resolves its names to numbers. Which names are declared and used is in
+//! specs/Names.antt, what a name becomes is in specs/Resolved.antt, and the faults in their order are in
+//! specs/Faults.antt. The code looks names up in an index, which is in specs/Index.antt.
 #![tactic(auto)]
 
 mod checking;
@@ -17,3 +18,6 @@ mod uses;
 
 pub use checking::check;
 pub use fault::CheckFault;
+
+#[cfg(test)]
+mod tests;

@@ -16,7 +16,8 @@ returns-in-Table c =
     let front = map part_tree (take i parts) in
     let back = map part_tree (drop (i + 1) parts) in
     let e : map part_tree parts ≡ front ++ part_tree x ∷ back =
-    ap (map part_tree) (split_at parts i x lt c.part-item.is) ∙ map-append part_tree (take i parts) (x ∷ drop (i + 1) parts) in
+    ap (map part_tree) (split_at parts i x lt c.part-item.is)
+    ∙ map-append part_tree (take i parts) (x ∷ drop (i + 1) parts) in
     sym (ap (list_any (λ (part : PartTree). is_table part.kind)) e
     ∙ list_any-append (λ (part : PartTree). is_table part.kind) front (part_tree x ∷ back)
     ∙ rw (c.loop-part.invariant, c.in-Table.is) refl)

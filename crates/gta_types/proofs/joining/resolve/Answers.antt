@@ -7,7 +7,8 @@ use Rattle.gta_checked.specs.declared.resolved.Goal.{Goal}
 use Rattle.gta_types.specs.declared.drafting.Draft.{Draft}
 use Rattle.gta_types.specs.Resolved.{Environment, environment}
 use Rattle.gta_types.specs.Lists.{environment_of}
-use Rattle.gta_types.proofs.Whole.{is_sound, has_few_names, all_ready, one_shape_there, one_goal_there, within_limits, the_one}
+use Rattle.gta_types.proofs.Whole.{is_sound, has_few_names, all_ready, one_shape_there}
+use Rattle.gta_types.proofs.Whole.{one_goal_there, within_limits, the_one}
 use Rattle.gta_types.proofs.Joined.{IsFresh, shapes_drafted, goals_drafted, is_resolved}
 use Rattle.gta_types.proofs.joining.resolve.Goals as goal
 

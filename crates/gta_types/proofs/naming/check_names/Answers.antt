@@ -15,7 +15,8 @@ returns-in-Some-clause-refused c =
     let p = c.in-Some.place in
     let at : option_map used_place (unknown_use parts) ≡ Some (place p) =
     used ∙ sym c.unknown_in.ensures ∙ ap (λ (o : Option Place). option_map place o) c.in-Some.is in
-    name_fault-unknown parts p.line c.in_ok-name.name (at ∙ ap (λ (n : List ℕ). Some (p.line, n)) (sym (c.in_ok-name.ensures ∙ c.bytes.ensures)))
+    name_fault-unknown parts p.line c.in_ok-name.name
+    (at ∙ ap (λ (n : List ℕ). Some (p.line, n)) (sym (c.in_ok-name.ensures ∙ c.bytes.ensures)))
 
 pub returns-in-Some-twice-clause-refused : goal.returns-in-Some-twice-clause-refused
 returns-in-Some-twice-clause-refused c =

@@ -16,7 +16,8 @@ pub returns-then-is_some : goal.returns-then-is_some
 returns-then-is_some c =
     let xs = c.args.cases.now in
     let lt : c.loop-case.case-index < length xs = omega arith in
-    unknown_first c.args.names.now (λ (case : CasePart). uses_of_case c.args.line (case_tree case)) xs c.loop-case.case-index
+    unknown_first c.args.names.now (λ (case : CasePart). uses_of_case c.args.line
+    (case_tree case)) xs c.loop-case.case-index
     c.case-item.result c.in_case-found.result lt c.case-item.is c.loop-case.invariant c.in_case-found.ensures
     c.if-is_some.ensures
     ∙ ap (unknown_in c.args.names.now) (sym (flat_map-map (uses_of_case c.args.line) case_tree xs))
@@ -25,7 +26,8 @@ pub loop-case-preserved : goal.loop-case-preserved
 loop-case-preserved c =
     let xs = c.args.cases.now in
     let lt : c.loop-case.case-index < length xs = omega arith in
-    unknown_none_more c.args.names.now (λ (case : CasePart). uses_of_case c.args.line (case_tree case)) xs c.loop-case.case-index
+    unknown_none_more c.args.names.now (λ (case : CasePart). uses_of_case c.args.line
+    (case_tree case)) xs c.loop-case.case-index
     c.case-item.result c.in_case-found.result lt c.case-item.is c.loop-case.invariant c.in_case-found.ensures
     c.if-is_some.ensures
 
@@ -34,4 +36,6 @@ returns c =
     let xs = c.args.cases.now in
     let all : take c.loop-case.case-index xs ≡ xs = take_all _ xs (omega arith) in
     sym (ap (unknown_in c.args.names.now) (flat_map-map (uses_of_case c.args.line) case_tree xs)
-    ∙ ap (λ (ys : List _). unknown_in c.args.names.now (flat_map (λ (case : CasePart). uses_of_case c.args.line (case_tree case)) ys)) (sym all) ∙ c.loop-case.invariant)
+    ∙ ap (λ (ys : List _). unknown_in c.args.names.now
+    (flat_map (λ (case : CasePart). uses_of_case c.args.line (case_tree case)) ys)) (sym all)
+    ∙ c.loop-case.invariant)

@@ -22,6 +22,7 @@ pub loop-atom-preserved : goal.loop-atom-preserved
 loop-atom-preserved c =
     let xs = c.args.cond.now in
     let lt : c.loop-atom.atom-index < length xs = omega arith in
-    unknown_none_more c.args.names.now (λ (atom : AtomPart). use_of_atom c.args.line atom ∷ []) xs c.loop-atom.atom-index
+    unknown_none_more c.args.names.now (λ (atom : AtomPart). use_of_atom c.args.line atom ∷ []) xs
+    c.loop-atom.atom-index
     c.atom-item.result c.in_atom-found.result lt c.atom-item.is c.loop-atom.invariant c.in_atom-found.ensures
     c.if-is_some.ensures

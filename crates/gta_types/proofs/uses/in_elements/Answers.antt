@@ -12,7 +12,8 @@ pub returns-then-is_some : goal.returns-then-is_some
 returns-then-is_some c =
     let xs = c.args.elements.now in
     let lt : c.loop-element.element-index < length xs = omega arith in
-    unknown_first c.args.names.now (λ (element : List ℕ). use_as c.args.line (ElementOf c.args.table.now) element ∷ []) xs c.loop-element.element-index
+    unknown_first c.args.names.now (λ (element : List ℕ). use_as c.args.line
+    (ElementOf c.args.table.now) element ∷ []) xs c.loop-element.element-index
     c.element-item.result c.unknown-found.result lt c.element-item.is c.loop-element.invariant c.unknown-found.ensures
     c.if-is_some.ensures
     ∙ ap (unknown_in c.args.names.now) (flat_map_single (use_as c.args.line (ElementOf c.args.table.now)) xs)
@@ -21,6 +22,7 @@ pub loop-element-preserved : goal.loop-element-preserved
 loop-element-preserved c =
     let xs = c.args.elements.now in
     let lt : c.loop-element.element-index < length xs = omega arith in
-    unknown_none_more c.args.names.now (λ (element : List ℕ). use_as c.args.line (ElementOf c.args.table.now) element ∷ []) xs c.loop-element.element-index
+    unknown_none_more c.args.names.now (λ (element : List ℕ). use_as c.args.line
+    (ElementOf c.args.table.now) element ∷ []) xs c.loop-element.element-index
     c.element-item.result c.unknown-found.result lt c.element-item.is c.loop-element.invariant c.unknown-found.ensures
     c.if-is_some.ensures

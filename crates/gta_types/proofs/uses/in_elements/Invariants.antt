@@ -6,4 +6,5 @@ use Rattle.gta_types.proofs.uses.in_elements.Given as goal
 
 abbrev pub invariant-loop-element : goal.invariant-loop-element
 invariant-loop-element l =
-    unknown_in l.names (flat_map (λ element. use_as l.line (ElementOf l.table) element ∷ []) (take l.element-index l.elements)) ≡ None
+    unknown_in l.names (flat_map (λ element. use_as l.line (ElementOf l.table) element ∷ [])
+    (take l.element-index l.elements)) ≡ None

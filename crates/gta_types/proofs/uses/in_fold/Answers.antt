@@ -10,21 +10,26 @@ returns-then-is_some c =
     let front = use_as c.args.line TableName c.args.table.now ∷ [] in
     let picks = flat_map (uses_of_pick c.args.line c.args.table.now) (map pick_tree c.args.picks.now) in
     let back = map (use_as c.args.line (ElementOf c.args.table.now)) c.args.accept.now in
-    unknown_front c.args.names.now front (picks ++ back) c.unknown-found.result c.unknown-found.ensures c.if-is_some.ensures
+    unknown_front c.args.names.now front (picks ++ back) c.unknown-found.result c.unknown-found.ensures
+    c.if-is_some.ensures
 
 pub returns-then-is_some-2 : goal.returns-then-is_some-2
 returns-then-is_some-2 c =
     let front = use_as c.args.line TableName c.args.table.now ∷ [] in
     let picks = flat_map (uses_of_pick c.args.line c.args.table.now) (map pick_tree c.args.picks.now) in
     let back = map (use_as c.args.line (ElementOf c.args.table.now)) c.args.accept.now in
-    unknown_back c.args.names.now front (picks ++ back) c.unknown-found.result _ c.unknown-found.ensures c.if-is_some.ensures
-    (unknown_front c.args.names.now picks back c.in_picks-found_pick.result c.in_picks-found_pick.ensures c.if-is_some-2.ensures)
+    unknown_back c.args.names.now front (picks ++ back) c.unknown-found.result _ c.unknown-found.ensures
+    c.if-is_some.ensures
+    (unknown_front c.args.names.now picks back c.in_picks-found_pick.result c.in_picks-found_pick.ensures
+    c.if-is_some-2.ensures)
 
 pub returns : goal.returns
 returns c =
     let front = use_as c.args.line TableName c.args.table.now ∷ [] in
     let picks = flat_map (uses_of_pick c.args.line c.args.table.now) (map pick_tree c.args.picks.now) in
     let back = map (use_as c.args.line (ElementOf c.args.table.now)) c.args.accept.now in
-    unknown_back c.args.names.now front (picks ++ back) c.unknown-found.result _ c.unknown-found.ensures c.if-is_some.ensures
-    (unknown_back c.args.names.now picks back c.in_picks-found_pick.result _ c.in_picks-found_pick.ensures c.if-is_some-2.ensures
+    unknown_back c.args.names.now front (picks ++ back) c.unknown-found.result _ c.unknown-found.ensures
+    c.if-is_some.ensures
+    (unknown_back c.args.names.now picks back c.in_picks-found_pick.result _ c.in_picks-found_pick.ensures
+    c.if-is_some-2.ensures
     c.in_elements.ensures)

@@ -19,6 +19,7 @@ pub loop-term-preserved : goal.loop-term-preserved
 loop-term-preserved c =
     let xs = c.args.form.now in
     let lt : c.loop-term.term-index < length xs = omega arith in
-    unknown_none_more c.args.names.now (λ (term : TermPart). uses_of_term c.args.line term.name) xs c.loop-term.term-index
+    unknown_none_more c.args.names.now (λ (term : TermPart). uses_of_term c.args.line term.name) xs
+    c.loop-term.term-index
     c.term-item.result c.in_term-found.result lt c.term-item.is c.loop-term.invariant c.in_term-found.ensures
     c.if-is_some.ensures

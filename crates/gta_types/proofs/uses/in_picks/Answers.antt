@@ -16,7 +16,8 @@ pub returns-then-is_some : goal.returns-then-is_some
 returns-then-is_some c =
     let xs = c.args.picks.now in
     let lt : c.loop-pick.pick-index < length xs = omega arith in
-    unknown_first c.args.names.now (λ (pick : PickPart). uses_of_pick c.args.line c.args.table.now (pick_tree pick)) xs c.loop-pick.pick-index
+    unknown_first c.args.names.now (λ (pick : PickPart). uses_of_pick c.args.line c.args.table.now
+    (pick_tree pick)) xs c.loop-pick.pick-index
     c.pick-item.result c.in_pick-found.result lt c.pick-item.is c.loop-pick.invariant c.in_pick-found.ensures
     c.if-is_some.ensures
     ∙ ap (unknown_in c.args.names.now) (sym (flat_map-map (uses_of_pick c.args.line c.args.table.now) pick_tree xs))
@@ -25,7 +26,8 @@ pub loop-pick-preserved : goal.loop-pick-preserved
 loop-pick-preserved c =
     let xs = c.args.picks.now in
     let lt : c.loop-pick.pick-index < length xs = omega arith in
-    unknown_none_more c.args.names.now (λ (pick : PickPart). uses_of_pick c.args.line c.args.table.now (pick_tree pick)) xs c.loop-pick.pick-index
+    unknown_none_more c.args.names.now (λ (pick : PickPart). uses_of_pick c.args.line c.args.table.now
+    (pick_tree pick)) xs c.loop-pick.pick-index
     c.pick-item.result c.in_pick-found.result lt c.pick-item.is c.loop-pick.invariant c.in_pick-found.ensures
     c.if-is_some.ensures
 
@@ -34,4 +36,6 @@ returns c =
     let xs = c.args.picks.now in
     let all : take c.loop-pick.pick-index xs ≡ xs = take_all _ xs (omega arith) in
     sym (ap (unknown_in c.args.names.now) (flat_map-map (uses_of_pick c.args.line c.args.table.now) pick_tree xs)
-    ∙ ap (λ (ys : List _). unknown_in c.args.names.now (flat_map (λ (pick : PickPart). uses_of_pick c.args.line c.args.table.now (pick_tree pick)) ys)) (sym all) ∙ c.loop-pick.invariant)
+    ∙ ap (λ (ys : List _). unknown_in c.args.names.now
+    (flat_map (λ (pick : PickPart). uses_of_pick c.args.line c.args.table.now (pick_tree pick)) ys))
+    (sym all) ∙ c.loop-pick.invariant)

@@ -7,4 +7,5 @@ use Rattle.gta_types.proofs.uses.in_picks.Given as goal
 
 abbrev pub invariant-loop-pick : goal.invariant-loop-pick
 invariant-loop-pick l =
-    unknown_in l.names (flat_map (λ pick. uses_of_pick l.line l.table (pick_tree pick)) (take l.pick-index l.picks)) ≡ None
+    unknown_in l.names (flat_map (λ pick. uses_of_pick l.line l.table (pick_tree pick))
+    (take l.pick-index l.picks)) ≡ None

@@ -19,13 +19,15 @@ returns-then-is_some c =
     unknown_first c.args.names.now (λ (part : Part). uses_of part.line (kind_tree part.kind)) xs c.loop-part.part-index
     c.part-item.result c.in_part-found.result lt c.part-item.is c.loop-part.invariant c.in_part-found.ensures
     c.if-is_some.ensures
-    ∙ ap (unknown_in c.args.names.now) (sym (flat_map-map (λ (part : PartTree). uses_of part.line part.kind) part_tree xs))
+    ∙ ap (unknown_in c.args.names.now) (sym (flat_map-map
+    (λ (part : PartTree). uses_of part.line part.kind) part_tree xs))
 
 pub loop-part-preserved : goal.loop-part-preserved
 loop-part-preserved c =
     let xs = c.args.parts.now in
     let lt : c.loop-part.part-index < length xs = omega arith in
-    unknown_none_more c.args.names.now (λ (part : Part). uses_of part.line (kind_tree part.kind)) xs c.loop-part.part-index
+    unknown_none_more c.args.names.now (λ (part : Part). uses_of part.line
+    (kind_tree part.kind)) xs c.loop-part.part-index
     c.part-item.result c.in_part-found.result lt c.part-item.is c.loop-part.invariant c.in_part-found.ensures
     c.if-is_some.ensures
 
@@ -34,4 +36,5 @@ returns c =
     let xs = c.args.parts.now in
     let all : take c.loop-part.part-index xs ≡ xs = take_all _ xs (omega arith) in
     sym (ap (unknown_in c.args.names.now) (flat_map-map (λ (part : PartTree). uses_of part.line part.kind) part_tree xs)
-    ∙ ap (λ (ys : List _). unknown_in c.args.names.now (flat_map (λ (part : Part). uses_of part.line (kind_tree part.kind)) ys)) (sym all) ∙ c.loop-part.invariant)
+    ∙ ap (λ (ys : List _). unknown_in c.args.names.now
+    (flat_map (λ (part : Part). uses_of part.line (kind_tree part.kind)) ys)) (sym all) ∙ c.loop-part.invariant)
