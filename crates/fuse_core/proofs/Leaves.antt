@@ -203,9 +203,8 @@ join-cost size most old new few ticks =
     omega (arith, product)
 
 -- a row more, among at most more rows
-pub leaf-cost : (size labels most count more old mid new : ℕ) → most ≤ labels + 1 → count + 1 ≤ more
-    → mid ≤ old + 4 * count * size * (labels + 1) → new ≤ mid + 4 * (most * size) → new ≤ old + 4 * more * size * (labels + 1)
-leaf-cost size labels most count more old mid new few fewer so_far ticks =
-    let product : most * size ≤ (labels + 1) * size = mul-le-mul_right size few in
+pub leaf-cost : (size labels count more old mid new : ℕ) → count + 1 ≤ more
+    → mid ≤ old + 4 * count * size * (labels + 1) → new ≤ mid + 4 * size * (labels + 1) → new ≤ old + 4 * more * size * (labels + 1)
+leaf-cost size labels count more old mid new fewer so_far ticks =
     let rows : (count + 1) * (size * (labels + 1)) ≤ more * (size * (labels + 1)) = mul-le-mul_right (size * (labels + 1)) fewer in
-    omega (arith, product, rows)
+    omega (arith, rows)
