@@ -1,4 +1,4 @@
-//! The maps of one component of a join, and the tuple of all of them.
+//! The maps of one component of a join, the tuple of all of them, and that of a row more.
 //! They are methods of a trait, since an impl's method can't call a function whose bound has an associated type that
 //! crosses threads.
 
