@@ -254,5 +254,5 @@ pub(crate) trait Pieces: Drop {
             StandsBy (shows self.now) (shape self.now) (labels self.now) (row + 1) hi maps }
         ensures stands { let stand = StandsBy (shows self.now) (shape self.now) (labels self.now) row hi in
             IfOk result (λ tuple. stand tuple.maps.items) }
-        ensures cost { steps.new ≤ steps.old + 4 * size self.now * (labels self.now + 1) };
+        ensures cost { steps.new ≤ steps.old + 4 * ((labels self.now + 1) * size self.now) };
 }

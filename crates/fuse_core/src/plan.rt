@@ -303,6 +303,7 @@ impl<K: MapKit> Pieces for Plan<K> {
         }
     }
 
+    #[tactic(auto, using(crate::proofs::Costs::few_times))]
     fn with_row<L: Ledger>(
         &self,
         alloc: Global,

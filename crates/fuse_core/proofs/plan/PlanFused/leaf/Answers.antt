@@ -1,5 +1,5 @@
 use Rattle.std.proofs.Common.{arith, ◌+◌, ◌-◌, ◌≤◌}
-use Rattle.fuse_core.proofs.Leaves.{leaf-cost}
+use Rattle.fuse_core.proofs.Costs.{leaf-cost}
 use Rattle.fuse_core.proofs.plan.PlanFused.leaf.Goals as goal
 
 pub returns-in_err-value-2-clause-cost : goal.returns-in_err-value-2-clause-cost
