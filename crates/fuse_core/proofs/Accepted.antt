@@ -1,12 +1,12 @@
 -- The sum over the accepted keys of what a map shows is the sum over the accepted candidates.
-use Rattle.std.proofs.Common.{◌≡◌, refl, sym, ap, ◌∙◌, subst, ℕ, ◌+◌, Bool, true, false, ◌⊎◌, inl, inr, List, [], ◌∷◌, slice_index_or, arith}
+use Rattle.std.proofs.Common.{◌≡◌, refl, sym, ap, ◌∙◌, subst, ℕ, ◌+◌, Bool, ◌⊎◌, inl, inr, List, [], ◌∷◌, slice_index_or, arith}
 use Rattle.std.specs.List.{range_with_len}
 use Rattle.monoid_kit.specs.Monoid.{IsMonoid}
 use Rattle.monoid_kit.proofs.Products.{product_by-same, product_by-append, product_by-filter}
 use Rattle.monoid_kit.proofs.Keyed.{product_by-keyed}
 use Rattle.semiring_kit.specs.Semiring.{SemiringOn, IsSemiring, IsGood}
 use Rattle.semiring_kit.specs.Total.{total, masked, total_at_key}
-use Rattle.semiring_kit.proofs.Sums.{masked-IsAdditive}
+use Rattle.semiring_kit.proofs.Sums.{masked-IsAdditive, add_is_good, masked_is_good}
 use Rattle.shape_gen.specs.declared.mark.Mark.{Mark}
 use Rattle.shape_gen.specs.declared.shape.Shape.{Shape}
 use Rattle.shape_gen.specs.declared.shape.Shape.TheVariants.{Sublists, Assign, Prefixes, Suffixes, Segments}
@@ -43,20 +43,16 @@ module _ {E : Type 0} {r : SemiringOn E} (laws : IsSemiring r) (accept : List Bo
       (λ k k_in. accepted_at-sound k) (λ k k_in. accepted_at-sound k)
       ∙ ap (r.add (total r f (range_with_len 0 n))) (laws.addition.monoid.right_identity (f (0 + n)) (accepted_at-sound (0 + n)) ∙ ap f last)
 
-  pub accepted-more : (key : ℕ) (sum value next : E) → sum ≡ total r (λ k. masked r (accepts accept k) (x k)) (range_with_len 0 key)
-      → value ≡ x key → accepts accept key ≡ true → next ≡ r.add sum value
+  pub sum-more : (key : ℕ) (sum next : E) → sum ≡ total r (λ k. masked r (accepts accept k) (x k)) (range_with_len 0 key)
+      → next ≡ r.add sum (masked r (accepts accept key) (x key))
       → next ≡ total r (λ k. masked r (accepts accept k) (x k)) (range_with_len 0 (key + 1))
-  accepted-more key sum value next so_far is yes_ added =
-      let here : x key ≡ masked r (accepts accept key) (x key) = ap (λ t. masked r t (x key)) (sym yes_) in
-      added ∙ ap (λ a. r.add a value) so_far
-      ∙ ap (r.add (total r (λ k. masked r (accepts accept k) (x k)) (range_with_len 0 key))) (is ∙ here) ∙ sym (one_more key)
+  sum-more key sum next so_far added =
+      added ∙ ap (λ a. r.add a (masked r (accepts accept key) (x key))) so_far ∙ sym (one_more key)
 
-  pub rejected-more : (key : ℕ) (sum : E) → IsGood r sum → sum ≡ total r (λ k. masked r (accepts accept k) (x k)) (range_with_len 0 key)
-      → accepts accept key ≡ false → sum ≡ total r (λ k. masked r (accepts accept k) (x k)) (range_with_len 0 (key + 1))
-  rejected-more key sum sum_good so_far no_ =
-      let here : r.zero ≡ masked r (accepts accept key) (x key) = ap (λ t. masked r t (x key)) (sym no_) in
-      sym (laws.addition.monoid.right_identity sum sum_good.sound) ∙ ap (λ a. r.add a r.zero) so_far
-      ∙ ap (r.add (total r (λ k. masked r (accepts accept k) (x k)) (range_with_len 0 key))) here ∙ sym (one_more key)
+  pub sum-is_good : (key : ℕ) (sum next : E) → IsGood r sum → next ≡ r.add sum (masked r (accepts accept key) (x key)) → IsGood r next
+  sum-is_good key sum next sum_good added =
+      subst (IsGood r) (sym added)
+      (add_is_good laws sum (masked r (accepts accept key) (x key)) sum_good (masked_is_good laws (accepts accept key) (x key) (good key)))
 
 module _ {E M : Type 0} {r : SemiringOn E} (laws : IsSemiring r) {size unit : ℕ} {times : ℕ → ℕ → ℕ} (monoid : IsMonoid size unit times)
     (fits : M → Type 0) (value_at : M → ℕ → E)

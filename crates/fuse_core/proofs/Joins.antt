@@ -15,9 +15,9 @@ use Rattle.key_map.proofs.Convolutions.{convolution-same, convolution_of_totals-
 use Rattle.shape_gen.specs.declared.mark.Mark.{Mark}
 use Rattle.shape_gen.specs.declared.shape.Shape.{Shape}
 use Rattle.shape_gen.specs.Candidates.{run}
-use Rattle.shape_gen.specs.Parts.{Whole, Pre, Suf, Seg, part}
+use Rattle.shape_gen.specs.Parts.{Pre, Suf, Seg, part}
 use Rattle.shape_gen.proofs.Lists.{concats, map-map, flat_map-same}
-use Rattle.shape_gen.proofs.Parts.{whole-parts, pre-parts, suf-parts, seg-parts}
+use Rattle.shape_gen.proofs.Parts.{pre-parts, suf-parts, seg-parts}
 use Rattle.fuse_core.specs.Stands.{ShowsSums}
 use Rattle.fuse_core.proofs.Weighs.{Weighs}
 
@@ -67,47 +67,29 @@ module _ {E : Type 0} {r : SemiringOn E} (laws : IsSemiring r) {size : ℕ} {tim
       shows m ∙ product_by-permuted laws.addition (λ c. masked r (nat_eq (key c) m) (weight c)) (masked_sound m) cs ds permuted
 
   module _ (shape : Shape) (labels lo mid hi : ℕ) (left : lo ≤ mid) (right : mid ≤ hi) where
-    pub whole_shows : (x y : ℕ → E) → ShowsSums r key weight (part shape labels Whole lo mid) x
-        → ShowsSums r key weight (part shape labels Whole mid hi) y
-        → ShowsSums r key weight (part shape labels Whole lo hi) (convolution r size times x y)
-    whole_shows x y xs ys =
-        subst (λ l. ShowsSums r key weight l (convolution r size times x y)) (sym (whole-parts shape labels lo mid hi left right))
-        (product_shows (part shape labels Whole lo mid) (part shape labels Whole mid hi) x y xs ys)
+    pub pre_shows : (pre crossing : ℕ → E) → ShowsSums r key weight (part shape labels Pre lo mid) pre
+        → ShowsSums r key weight (concats (run lo (mid - lo) ∷ []) (part shape labels Pre mid hi)) crossing
+        → ShowsSums r key weight (part shape labels Pre lo hi) (λ m. r.add (pre m) (crossing m))
+    pre_shows pre crossing pres crossings =
+        subst (λ l. ShowsSums r key weight l (λ m. r.add (pre m) (crossing m))) (sym (pre-parts shape labels lo mid hi left right))
+        (sum_shows (part shape labels Pre lo mid) (concats (run lo (mid - lo) ∷ []) (part shape labels Pre mid hi)) pre crossing pres crossings)
 
-    pub pre_shows : (whole pre later : ℕ → E) → ShowsSums r key weight (run lo (mid - lo) ∷ []) whole
-        → ShowsSums r key weight (part shape labels Pre lo mid) pre
-        → ShowsSums r key weight (part shape labels Pre mid hi) later
-        → ShowsSums r key weight (part shape labels Pre lo hi) (λ m. r.add (pre m) (convolution r size times whole later m))
-    pre_shows whole pre later wholes pres laters =
-        subst (λ l. ShowsSums r key weight l (λ m. r.add (pre m) (convolution r size times whole later m)))
-        (sym (pre-parts shape labels lo mid hi left right))
-        (sum_shows (part shape labels Pre lo mid) (concats (run lo (mid - lo) ∷ []) (part shape labels Pre mid hi))
-        pre (convolution r size times whole later) pres
-        (product_shows (run lo (mid - lo) ∷ []) (part shape labels Pre mid hi) whole later wholes laters))
+    pub suf_shows : (suf crossing : ℕ → E) → ShowsSums r key weight (part shape labels Suf mid hi) suf
+        → ShowsSums r key weight (concats (part shape labels Suf lo mid) (run mid (hi - mid) ∷ [])) crossing
+        → ShowsSums r key weight (part shape labels Suf lo hi) (λ m. r.add (suf m) (crossing m))
+    suf_shows suf crossing sufs crossings =
+        subst (λ l. ShowsSums r key weight l (λ m. r.add (suf m) (crossing m))) (sym (suf-parts shape labels lo mid hi left right))
+        (sum_shows (part shape labels Suf mid hi) (concats (part shape labels Suf lo mid) (run mid (hi - mid) ∷ [])) suf crossing sufs crossings)
 
-    pub suf_shows : (suf earlier whole : ℕ → E) → ShowsSums r key weight (part shape labels Suf mid hi) suf
-        → ShowsSums r key weight (part shape labels Suf lo mid) earlier
-        → ShowsSums r key weight (run mid (hi - mid) ∷ []) whole
-        → ShowsSums r key weight (part shape labels Suf lo hi) (λ m. r.add (suf m) (convolution r size times earlier whole m))
-    suf_shows suf earlier whole sufs earliers wholes =
-        subst (λ l. ShowsSums r key weight l (λ m. r.add (suf m) (convolution r size times earlier whole m)))
-        (sym (suf-parts shape labels lo mid hi left right))
-        (sum_shows (part shape labels Suf mid hi) (concats (part shape labels Suf lo mid) (run mid (hi - mid) ∷ []))
-        suf (convolution r size times earlier whole) sufs
-        (product_shows (part shape labels Suf lo mid) (run mid (hi - mid) ∷ []) earlier whole earliers wholes))
-
-    pub seg_shows : (earlier later suf pre : ℕ → E) → ShowsSums r key weight (part shape labels Seg lo mid) earlier
+    pub seg_shows : (earlier later crossing : ℕ → E) → ShowsSums r key weight (part shape labels Seg lo mid) earlier
         → ShowsSums r key weight (part shape labels Seg mid hi) later
-        → ShowsSums r key weight (part shape labels Suf lo mid) suf
-        → ShowsSums r key weight (part shape labels Pre mid hi) pre
-        → ShowsSums r key weight (part shape labels Seg lo hi)
-        (λ m. r.add (earlier m) (r.add (later m) (convolution r size times suf pre m)))
-    seg_shows earlier later suf pre earliers laters sufs pres =
-        let crossing = concats (part shape labels Suf lo mid) (part shape labels Pre mid hi) in
-        permuted_shows (part shape labels Seg lo hi) (part shape labels Seg lo mid ++ (part shape labels Seg mid hi ++ crossing))
-        (λ m. r.add (earlier m) (r.add (later m) (convolution r size times suf pre m)))
+        → ShowsSums r key weight (concats (part shape labels Suf lo mid) (part shape labels Pre mid hi)) crossing
+        → ShowsSums r key weight (part shape labels Seg lo hi) (λ m. r.add (earlier m) (r.add (later m) (crossing m)))
+    seg_shows earlier later crossing earliers laters crossings =
+        let across = concats (part shape labels Suf lo mid) (part shape labels Pre mid hi) in
+        permuted_shows (part shape labels Seg lo hi) (part shape labels Seg lo mid ++ (part shape labels Seg mid hi ++ across))
+        (λ m. r.add (earlier m) (r.add (later m) (crossing m)))
         (seg-parts shape labels lo mid hi left right)
-        (sum_shows (part shape labels Seg lo mid) (part shape labels Seg mid hi ++ crossing)
-        earlier (λ m. r.add (later m) (convolution r size times suf pre m)) earliers
-        (sum_shows (part shape labels Seg mid hi) crossing later (convolution r size times suf pre) laters
-        (product_shows (part shape labels Suf lo mid) (part shape labels Pre mid hi) suf pre sufs pres)))
+        (sum_shows (part shape labels Seg lo mid) (part shape labels Seg mid hi ++ across)
+        earlier (λ m. r.add (later m) (crossing m)) earliers
+        (sum_shows (part shape labels Seg mid hi) across later crossing laters crossings))

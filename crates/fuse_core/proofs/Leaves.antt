@@ -1,4 +1,4 @@
--- What the maps of no row and of one row show, and what a leaf costs.
+-- What the maps of no row and of one row show.
 use Rattle.std.proofs.Common.{◌≡◌, sym, ap, ◌∙◌, subst, ℕ, zero, suc, ◌+◌, ◌*◌, ◌<◌, ◌≤◌, true, false, ◌⊎◌, inl, inr, List, [], ◌∷◌, ◌++◌, length, map, slice_index_or, nat_eq, arith, mul-le-mul_right, Result, Ok, Err, IfOk}
 use Rattle.std.proofs.lemmas.List.FromFn.{map-range_with_len_more}
 use Rattle.std.specs.List.{range_with_len}
@@ -194,18 +194,3 @@ module _ {E M : Type 0} {r : SemiringOn E} (laws : IsSemiring r) {size unit : �
             ),
           ),
         ))
-
--- costs
-
-pub join-cost : (size most old new : ℕ) → most ≤ size → new ≤ old + 4 * (most * size) → new ≤ old + 4 * size * size
-join-cost size most old new few ticks =
-    let product : most * size ≤ size * size = mul-le-mul_right size few in
-    omega (arith, product)
-
--- a row more, among at most more rows
-pub leaf-cost : (size labels most count more old mid new : ℕ) → most ≤ labels + 1 → count + 1 ≤ more
-    → mid ≤ old + 4 * count * size * (labels + 1) → new ≤ mid + 4 * (most * size) → new ≤ old + 4 * more * size * (labels + 1)
-leaf-cost size labels most count more old mid new few fewer so_far ticks =
-    let product : most * size ≤ (labels + 1) * size = mul-le-mul_right size few in
-    let rows : (count + 1) * (size * (labels + 1)) ≤ more * (size * (labels + 1)) = mul-le-mul_right (size * (labels + 1)) fewer in
-    omega (arith, product, rows)

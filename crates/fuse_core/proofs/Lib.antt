@@ -5,3 +5,4 @@ pub mod Reading
 pub mod Halves
 pub mod Leaves
 pub mod Accepted
+pub mod Costs

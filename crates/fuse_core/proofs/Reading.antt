@@ -1,5 +1,5 @@
 -- Reading the map of a component out of a tuple.
-use Rattle.std.proofs.Common.{◌≡◌, refl, sym, ap, subst, ℕ, zero, suc, ◌≤◌, List, [], ◌∷◌, slice_index_or, arith, Result, Ok, Err, IfOk}
+use Rattle.std.proofs.Common.{◌≡◌, refl, sym, ap, subst, ℕ, zero, suc, ◌<◌, ◌≤◌, List, [], ◌∷◌, length, slice_index_or, arith, Result, Ok, Err, IfOk}
 use Rattle.shape_gen.specs.declared.shape.Shape.{Shape}
 use Rattle.shape_gen.specs.declared.shape.Shape.TheVariants.{Sublists, Assign, Prefixes, Suffixes, Segments}
 use Rattle.shape_gen.specs.Candidates.{run}
@@ -28,6 +28,15 @@ module _ {M : Type 0} where
   most-at f P (first ∷ js) (map ∷ maps) (suc i) j x each at is =
       let later : f x ≤ most f maps = most-at f P js maps i j x each.1 at is in omega arith
 
+  -- each map is that of a component
+  pub some-at : (P : Component → M → Type 0) (js : List Component) (maps : List M) (i : ℕ) → HoldsOfEach P js maps → i < length maps
+      → (j : Component) × IsAt js i j
+  some-at P [] [] i each within = absurd (omega arith)
+  some-at P [] (map ∷ maps) i each within = elim each [ ]
+  some-at P (first ∷ js) [] i each within = elim each [ ]
+  some-at P (first ∷ js) (map ∷ maps) zero each within = (first, refl)
+  some-at P (first ∷ js) (map ∷ maps) (suc i) each within = some-at P js maps i each.1 (omega arith)
+
   -- what holds of each map bounds the most
   pub most-within : (f : M → ℕ) (P : Component → M → Type 0) (bound : ℕ) (js : List Component) (maps : List M)
       → HoldsOfEach P js maps → ((j : Component) (x : M) → P j x → f x ≤ bound) → most f maps ≤ bound
@@ -38,6 +47,11 @@ module _ {M : Type 0} where
       let here : f map ≤ bound = within first map each.0 in
       let later : most f maps ≤ bound = most-within f P bound js maps each.1 within in
       omega arith
+
+pub component-at : (js : List Component) (i : ℕ) (j : Component) → IsAt js i j → slice_index_or js i Whole ≡ j
+component-at [] i j at = elim at [ ]
+component-at (first ∷ js) zero j at = sym at
+component-at (first ∷ js) (suc i) j at = component-at js i j at
 
 pub whole-first : (shape : Shape) → IsAt (components shape) 0 Whole
 whole-first Sublists = refl

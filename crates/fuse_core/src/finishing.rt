@@ -1,6 +1,6 @@
 //! The answer of all rows: the sum over the accepted candidates.
 
-ghost use Rattle.std.specs.Prelude.{◌≡◌, length, IfOk};
+ghost use Rattle.std.specs.Prelude.{◌≡◌, ◌<◌, length, IfOk};
 ghost use Rattle.std.specs.List.{range_with_len};
 ghost use Rattle.semiring_kit.specs.Semiring.{IsGood};
 ghost use Rattle.semiring_kit.specs.Total.{total, masked};
@@ -28,7 +28,9 @@ pub fn finish<K: MapKit>(
     requires stands { ⟦<Plan<K> as Fused>⟧.stands plan.now 0 plan.now.rows value.now }
     requires one_a_key { length accept.now ≡ K.Keys.size (K.keys plan.now.kit) }
     ensures { let ring = K.Kit.ring (K.kit plan.now.kit) in
-        let key = key_of (K.Keys.unit (K.keys plan.now.kit)) (K.Keys.mul (K.keys plan.now.kit)) plan.now.labels plan.now.letters in
+        let unit = K.Keys.unit (K.keys plan.now.kit) in
+        let times = K.Keys.mul (K.keys plan.now.kit) in
+        let key = key_of unit times plan.now.labels plan.now.letters in
         let weight = weight_of ring plan.now.labels plan.now.letters in
         let all = candidates plan.now.shape plan.now.rows plan.now.labels in
         IfOk result (λ sum. sum ≡ accepted_sum ring key weight accept.now all) }
@@ -56,18 +58,41 @@ fn accepted_of<K: MapKit>(
     requires fits { K.fits kit.now map.now }
     requires one_a_key { length accept.now ≡ K.Keys.size (K.keys kit.now) }
     ensures value { let ring = K.Kit.ring (K.kit kit.now) in
-        IfOk result (λ sum. sum ≡ total ring (λ k. masked ring (accepts accept.now k) (K.value_at kit.now map.now k))
-        (range_with_len 0 (K.Keys.size (K.keys kit.now)))) }
+        let all = range_with_len 0 (K.Keys.size (K.keys kit.now)) in
+        let value = K.value_at kit.now map.now in
+        IfOk result (λ sum. sum ≡ total ring (λ k. masked ring (accepts accept.now k) (value k)) all) }
     ensures is_good { IfOk result (IsGood (K.Kit.ring (K.kit kit.now))) }
 {
     let mut sum = kit.kit().zero(alloc)?;
     for key in 0..kit.keys().size() {
-        if accept[key as usize] {
-            let value = kit.get(alloc, map, key)?;
-            sum = kit.kit().add(alloc, &sum, &value)?;
-        }
+        sum = with_key(alloc, kit, map, accept, key, sum)?;
     }
     Ok(sum)
+}
+
+/// The sum with the value at a key, where the key is accepted.
+fn with_key<K: MapKit>(
+    alloc: Global,
+    kit: &K,
+    map: &K::Map,
+    accept: &[bool],
+    key: u32,
+    sum: <K::Kit as Semiring>::Elem,
+) -> Result<<K::Kit as Semiring>::Elem, AllocError>
+    requires fits { K.fits kit.now map.now }
+    requires key_is_element { key < K.Keys.size (K.keys kit.now) }
+    requires one_a_key { length accept.now ≡ K.Keys.size (K.keys kit.now) }
+    requires is_good { IsGood (K.Kit.ring (K.kit kit.now)) sum }
+    ensures { let ring = K.Kit.ring (K.kit kit.now) in
+        let value = masked ring (accepts accept.now key) (K.value_at kit.now map.now key) in
+        IfOk result (λ with_key. with_key ≡ ring.add sum value) }
+{
+    if accept[key as usize] {
+        let value = kit.get(alloc, map, key)?;
+        kit.kit().add(alloc, &sum, &value)
+    } else {
+        Ok(sum)
+    }
 }
 
 /// The sum with the empty candidate, where its key is accepted.

@@ -36,9 +36,21 @@ impl<K: MapKit> Model for Plan<K> {
 
     ghost Value = { Planned K K.Kit.Elem };
 
-    ghost view = { λ p. record { shape = p.shape; rows = p.rows; labels = p.labels; kit = p.kit; letters = p.letters.items } };
+    ghost view = { λ p. record {
+      shape = p.shape;
+      rows = p.rows;
+      labels = p.labels;
+      kit = p.kit;
+      letters = p.letters.items;
+    } };
 
-    ghost invariant = { λ p. HasLetters (K.Kit.ring (K.kit p.kit)) (K.Keys.size (K.keys p.kit)) p.shape p.rows p.labels p.letters.items };
+    ghost invariant = { λ p. HasLetters
+        (K.Kit.ring (K.kit p.kit))
+        (K.Keys.size (K.keys p.kit))
+        p.shape
+        p.rows
+        p.labels
+        p.letters.items };
 }
 
 /// The plan of a shape over these rows and labels, labels being 1 unless the shape is Assign. Letters stand by row, and
@@ -53,7 +65,8 @@ pub fn plan_of<K: MapKit>(
     requires some_label { 1 ≤ labels }
     requires one_label { (shape ≡ Assign) ⊎ (labels ≡ 1) }
     requires count { length letters.items ≡ rows * labels }
-    requires keys_are_elements { AllElements (λ key. key < K.Keys.size (K.keys kit)) (λ letter. letter.key) letters.items }
+    requires keys_are_elements { let size = K.Keys.size (K.keys kit) in
+        AllElements (λ key. key < size) (λ letter. letter.key) letters.items }
     requires elems_are_good { AllElements (IsGood (K.Kit.ring (K.kit kit))) (λ letter. letter.elem) letters.items }
     requires reaches_add_up { rows_reach (K.Kit.ring (K.kit kit)) labels letters.items 0 rows ≤ weight_bound }
     ensures { result ≡ record { shape = shape; rows = rows; labels = labels; kit = kit; letters = letters.items } }
@@ -105,8 +118,7 @@ impl<K: MapKit> Fused for Plan<K> {
     ) -> Result<Tuple<K::Map>, AllocError> {
         let mut value = self.no_row(alloc)?;
         for row in (lo..hi).rev() {
-            let one = self.one_row(alloc, row)?;
-            value = self.joined(alloc, row, row + 1, hi, &one, &value, steps)?;
+            value = self.with_row(alloc, row, hi, &value, steps)?;
         }
         Ok(value)
     }
@@ -150,54 +162,90 @@ impl<K: MapKit> Pieces for Plan<K> {
         lists
         map };
 
-    fn joined_whole<L: Ledger>(
+    fn crossing<L: Ledger>(
         &self,
         alloc: Global,
         _lo: u32,
         _mid: u32,
         _hi: u32,
+        earlier: usize,
+        later: usize,
         left: &Tuple<K::Map>,
         right: &Tuple<K::Map>,
         steps: &mut Steps<L>,
     ) -> Result<K::Map, AllocError> {
         self.kit
-            .convolve(alloc, &left.maps[0], &right.maps[0], steps)
+            .convolve(alloc, &left.maps[earlier], &right.maps[later], steps)
     }
 
-    fn joined_prefixes<L: Ledger>(
+    fn joined_whole<L: Ledger>(
+        &self,
+        alloc: Global,
+        lo: u32,
+        mid: u32,
+        hi: u32,
+        left: &Tuple<K::Map>,
+        right: &Tuple<K::Map>,
+        steps: &mut Steps<L>,
+    ) -> Result<K::Map, AllocError> {
+        self.crossing(alloc, lo, mid, hi, 0, 0, left, right, steps)
+    }
+
+    fn all_prefixes(
         &self,
         alloc: Global,
         _lo: u32,
         _mid: u32,
         _hi: u32,
         left: &Tuple<K::Map>,
+        crossing: &K::Map,
+    ) -> Result<K::Map, AllocError> {
+        self.kit.add(alloc, &left.maps[1], crossing)
+    }
+
+    fn joined_prefixes<L: Ledger>(
+        &self,
+        alloc: Global,
+        lo: u32,
+        mid: u32,
+        hi: u32,
+        left: &Tuple<K::Map>,
         right: &Tuple<K::Map>,
         steps: &mut Steps<L>,
     ) -> Result<K::Map, AllocError> {
-        let across = self
-            .kit
-            .convolve(alloc, &left.maps[0], &right.maps[1], steps)?;
-        self.kit.add(alloc, &left.maps[1], &across)
+        let crossing = self.crossing(alloc, lo, mid, hi, 0, 1, left, right, steps)?;
+        self.all_prefixes(alloc, lo, mid, hi, left, &crossing)
     }
 
-    fn joined_suffixes<L: Ledger>(
+    fn all_suffixes(
         &self,
         alloc: Global,
         _lo: u32,
         _mid: u32,
         _hi: u32,
         place: usize,
+        right: &Tuple<K::Map>,
+        crossing: &K::Map,
+    ) -> Result<K::Map, AllocError> {
+        self.kit.add(alloc, &right.maps[place], crossing)
+    }
+
+    fn joined_suffixes<L: Ledger>(
+        &self,
+        alloc: Global,
+        lo: u32,
+        mid: u32,
+        hi: u32,
+        place: usize,
         left: &Tuple<K::Map>,
         right: &Tuple<K::Map>,
         steps: &mut Steps<L>,
     ) -> Result<K::Map, AllocError> {
-        let across = self
-            .kit
-            .convolve(alloc, &left.maps[place], &right.maps[0], steps)?;
-        self.kit.add(alloc, &right.maps[place], &across)
+        let crossing = self.crossing(alloc, lo, mid, hi, place, 0, left, right, steps)?;
+        self.all_suffixes(alloc, lo, mid, hi, place, right, &crossing)
     }
 
-    fn joined_segments<L: Ledger>(
+    fn all_segments(
         &self,
         alloc: Global,
         _lo: u32,
@@ -205,13 +253,24 @@ impl<K: MapKit> Pieces for Plan<K> {
         _hi: u32,
         left: &Tuple<K::Map>,
         right: &Tuple<K::Map>,
+        crossing: &K::Map,
+    ) -> Result<K::Map, AllocError> {
+        let others = self.kit.add(alloc, &right.maps[3], crossing)?;
+        self.kit.add(alloc, &left.maps[3], &others)
+    }
+
+    fn joined_segments<L: Ledger>(
+        &self,
+        alloc: Global,
+        lo: u32,
+        mid: u32,
+        hi: u32,
+        left: &Tuple<K::Map>,
+        right: &Tuple<K::Map>,
         steps: &mut Steps<L>,
     ) -> Result<K::Map, AllocError> {
-        let across = self
-            .kit
-            .convolve(alloc, &left.maps[2], &right.maps[1], steps)?;
-        let others = self.kit.add(alloc, &right.maps[3], &across)?;
-        self.kit.add(alloc, &left.maps[3], &others)
+        let crossing = self.crossing(alloc, lo, mid, hi, 2, 1, left, right, steps)?;
+        self.all_segments(alloc, lo, mid, hi, left, right, &crossing)
     }
 
     fn joined<L: Ledger>(
@@ -242,6 +301,19 @@ impl<K: MapKit> Pieces for Plan<K> {
                 four_maps(alloc, whole, pre, suf, seg)
             }
         }
+    }
+
+    #[tactic(auto, using(crate::proofs::Costs::few_times))]
+    fn with_row<L: Ledger>(
+        &self,
+        alloc: Global,
+        row: u32,
+        hi: u32,
+        later: &Tuple<K::Map>,
+        steps: &mut Steps<L>,
+    ) -> Result<Tuple<K::Map>, AllocError> {
+        let one = self.one_row(alloc, row)?;
+        self.joined(alloc, row, row + 1, hi, &one, later, steps)
     }
 }
 

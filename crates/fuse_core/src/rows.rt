@@ -37,7 +37,8 @@ pub(crate) trait Rows: Drop {
 
     /// The tuple of no row.
     fn no_row(&self, alloc: Global) -> Result<Tuple<Self::Map>, AllocError>
-        ensures { IfOk result (λ tuple. (lo : ℕ) → StandsBy (shows self.now) (shape self.now) (labels self.now) lo lo tuple.maps.items) };
+        ensures { let stand = StandsBy (shows self.now) (shape self.now) (labels self.now) in
+            IfOk result (λ tuple. (lo : ℕ) → stand lo lo tuple.maps.items) };
 
     /// The map of the one list with this mark.
     fn marked(&self, alloc: Global, row: u32, label: u32) -> Result<Self::Map, AllocError>
@@ -55,12 +56,14 @@ pub(crate) trait Rows: Drop {
     /// The map of the lists of this row with each label.
     fn labelled(&self, alloc: Global, row: u32) -> Result<Self::Map, AllocError>
         requires row_in_range { row < rows self.now }
-        ensures shows { IfOk result (shows self.now (map (λ label. mark row label ∷ []) (range_with_len 0 (labels self.now)))) }
+        ensures shows { let all = range_with_len 0 (labels self.now) in
+            IfOk result (shows self.now (map (λ label. mark row label ∷ []) all)) }
         ensures kept { IfOk result (λ map. kept self.now map ≤ labels self.now) };
 
     /// The tuple of one row.
     fn one_row(&self, alloc: Global, row: u32) -> Result<Tuple<Self::Map>, AllocError>
         requires row_in_range { row < rows self.now }
-        ensures stands { IfOk result (λ tuple. StandsBy (shows self.now) (shape self.now) (labels self.now) row (row + 1) tuple.maps.items) }
+        ensures stands { let stand = StandsBy (shows self.now) (shape self.now) (labels self.now) in
+            IfOk result (λ tuple. stand row (row + 1) tuple.maps.items) }
         ensures kept { IfOk result (λ tuple. most (kept self.now) tuple.maps.items ≤ labels self.now + 1) };
 }

@@ -3,7 +3,6 @@
 
 ghost use Rattle.std.specs.Prelude.{◌≡◌, ◌⊎◌, ℕ, ◌+◌, ◌*◌, ◌<◌, ◌≤◌, length, IfOk};
 ghost use Rattle.monoid_kit.specs.Items.{AllElements};
-ghost use Rattle.semiring_kit.specs.MaxPlus.{max_plus};
 ghost use Rattle.semiring_kit.specs.Semiring.{IsGood};
 ghost use Rattle.shape_gen.specs.declared.shape.Shape.TheVariants.{Assign};
 ghost use Rattle.fuse_core.specs.Letters.{rows_reach};
@@ -12,8 +11,8 @@ use super::*;
 use interval_kit::Fused;
 use key_map::{MapKit, SparseKit};
 use monoid_kit::{CappedSum, GREATEST_BOUND, Monoid};
-use semiring_kit::{MaxPlus, Semiring};
-use shape_gen::Shape;
+use semiring_kit::{Count, MaxPlus, Semiring};
+use shape_gen::{Mark, Shape};
 use std::alloc::{AllocError, Global};
 use std::marker::Brand;
 use std::process::Abort;
@@ -56,45 +55,50 @@ impl Monoid for ZeroBand {
 }
 
 // A letter for each value and weight. Its key is the value, or the greatest key where the value is greater.
-fn letters_of(
+fn letters_of<S: Semiring>(
     alloc: Global,
+    kit: &S,
     size: u32,
     marks: &[(u32, i16)],
-) -> Result<Vec<Letter<Option<i64>>>, AllocError>
+) -> Result<Vec<Letter<S::Elem>>, AllocError>
     requires some_key { 1 ≤ size }
     ensures count { IfOk result (λ letters. length letters.items ≡ length marks.now) }
     ensures keys { IfOk result (λ letters. AllElements (λ key. key < size) (λ letter. letter.key) letters.items) }
-    ensures good { IfOk result (λ letters. AllElements (IsGood max_plus) (λ letter. letter.elem) letters.items) }
-    ensures near { IfOk result (λ letters. (labels rows : ℕ)
-        → rows_reach max_plus labels letters.items 0 rows ≤ rows * 32768) }
+    ensures good { let ring = S.ring kit.now in
+        IfOk result (λ letters. AllElements (IsGood ring) (λ letter. letter.elem) letters.items) }
+    ensures near { let ring = S.ring kit.now in
+        IfOk result (λ letters. (labels rows : ℕ) → rows_reach ring labels letters.items 0 rows ≤ rows * 32768) }
 {
     let mut letters = Vec::with_capacity(alloc, marks.len())?;
     for (value, weight) in marks {
+        let mark = Mark { row: 0, label: 0 };
+        let elem = kit.of_mark(alloc, mark, i64::from(*weight))?;
         letters.push(Letter {
             key: (*value).min(size - 1),
-            elem: Some(i64::from(*weight)),
+            elem,
         })?;
     }
     Ok(letters)
 }
 
 // The plan of a shape over maps of slots. Marks stand by row, and then by label.
-fn plan_over<M: Monoid>(
+fn plan_over<S: Semiring, M: Monoid>(
     alloc: Global,
     shape: Shape,
     rows: u32,
     labels: u32,
+    kit: S,
     keys: M,
     marks: &[(u32, i16)],
-) -> Result<Plan<SparseKit<MaxPlus, M>>, AllocError>
+) -> Result<Plan<SparseKit<S, M>>, AllocError>
     requires some_label { 1 ≤ labels }
     requires one_label { (shape ≡ Assign) ⊎ (labels ≡ 1) }
     requires count { length marks.now ≡ rows * labels }
     ensures kit { IfOk result (λ plan. plan.kit.keys ≡ keys) }
     ensures rows { IfOk result (λ plan. plan.rows ≡ rows) }
 {
-    let letters = letters_of(alloc, keys.size(), marks)?;
-    let kit = SparseKit { kit: MaxPlus, keys };
+    let letters = letters_of(alloc, &kit, keys.size(), marks)?;
+    let kit = SparseKit { kit, keys };
     Ok(plan_of(shape, rows, labels, kit, letters))
 }
 
@@ -158,7 +162,7 @@ fn assert_greatest<M: Monoid>(
     let rows = u32::try_from(marks.len())? / labels;
     assert_eq!(rt; marks.len(), rows as usize * labels as usize);
     assert_eq!(rt; accept.len(), keys.size() as usize);
-    let plan = plan_over(alloc, shape, rows, labels, keys, marks)?;
+    let plan = plan_over(alloc, shape, rows, labels, MaxPlus, keys, marks)?;
     for second in 0..=rows {
         let first = second / 2;
         let answers = sums::<SparseKit<MaxPlus, M>, Brand>(
@@ -172,6 +176,40 @@ fn assert_greatest<M: Monoid>(
         assert_eq!(rt;
             answers,
             (greatest, greatest, greatest),
+            "{shape:?} of {marks:?} cut at {first} and {second}"
+        );
+    }
+    Ok(())
+}
+
+// The number of accepted candidates comes out in the same way.
+fn assert_count<M: Monoid>(
+    rt: &impl Abort,
+    alloc: Global,
+    shape: Shape,
+    keys: M,
+    marks: &[(u32, i16)],
+    accept: &[bool],
+    count: u64,
+) -> Result<(), Fail> {
+    let labels = labels_of(shape);
+    let rows = u32::try_from(marks.len())? / labels;
+    assert_eq!(rt; marks.len(), rows as usize * labels as usize);
+    assert_eq!(rt; accept.len(), keys.size() as usize);
+    let plan = plan_over(alloc, shape, rows, labels, Count, keys, marks)?;
+    for second in 0..=rows {
+        let first = second / 2;
+        let answers = sums::<SparseKit<Count, M>, Brand>(
+            alloc,
+            &plan,
+            first,
+            second,
+            accept,
+            Blank::new(1),
+        )?;
+        assert_eq!(rt;
+            answers,
+            (count, count, count),
             "{shape:?} of {marks:?} cut at {first} and {second}"
         );
     }
@@ -281,6 +319,40 @@ fn keys_keep_the_order_of_rows(rt: HostRuntime) -> Result<(), Fail> {
         assert_greatest(&rt, rt.alloc(), shape, first, marks, &accept, by_first)?;
         let last = ZeroBand { right: true };
         assert_greatest(&rt, rt.alloc(), shape, last, marks, &accept, by_last)?;
+    }
+    Ok(())
+}
+
+#[test]
+fn as_many_as_pass(rt: HostRuntime) -> Result<(), Fail> {
+    let ones = [(1, 1); 10].as_slice();
+    let three = [(1, 1); 3].as_slice();
+    let values = [(3, 3), (4, 4), (2, 2)].as_slice();
+    let labelled = [(1, 1), (0, 0), (2, 2), (0, 0), (3, 3), (0, 0)].as_slice();
+    let no_rows = [].as_slice();
+    let only_3_of_3 = [false, false, false, true, false].as_slice();
+    let only_2_of_2 = [false, false, true, false].as_slice();
+    let from_2_of_2 = [false, false, true, true].as_slice();
+    let up_to_2 = [true, true, true, false].as_slice();
+    let up_to_5 = [true, true, true, true, true, true, false].as_slice();
+    let up_to_0 = [true, false].as_slice();
+    let all = [true, true].as_slice();
+    let cases = [
+        (Shape::Sublists, 3, ones, only_3_of_3, 120),
+        (Shape::Sublists, 2, three, from_2_of_2, 4),
+        (Shape::Sublists, 2, three, only_2_of_2, 3),
+        (Shape::Sublists, 2, three, up_to_2, 7),
+        (Shape::Sublists, 0, no_rows, up_to_0, 1),
+        (Shape::Assign, 3, labelled, only_3_of_3, 2),
+        (Shape::Prefixes, 5, values, up_to_5, 2),
+        (Shape::Suffixes, 5, values, up_to_5, 2),
+        (Shape::Segments, 5, values, up_to_5, 4),
+        (Shape::Segments, 0, three, all, 7),
+    ];
+    for (shape, bound, marks, accept, count) in cases {
+        assert!(rt; bound <= GREATEST_BOUND);
+        let keys = CappedSum { bound };
+        assert_count(&rt, rt.alloc(), shape, keys, marks, accept, count)?;
     }
     Ok(())
 }

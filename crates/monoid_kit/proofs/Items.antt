@@ -1,5 +1,5 @@
 -- Lemmas on the items of lists.
-use Rattle.std.proofs.Common.{◌≡◌, ℕ, zero, suc, ◌<◌, Bool, true, false, List, [], ◌∷◌, ◌++◌, length, get_or, set, take, map, cond, inl, inr, refl, sym, subst, arith}
+use Rattle.std.proofs.Common.{◌≡◌, ℕ, zero, suc, ◌<◌, Bool, true, false, List, [], ◌∷◌, ◌++◌, length, get_or, take, map, cond, inl, inr, refl, sym, subst, arith}
 use Rattle.std.specs.List.{filter, flat_map}
 use Rattle.monoid_kit.specs.Items.{IsIn, AllElements}
 
@@ -48,18 +48,6 @@ module _ {E X : Type 0} (is_element : E → Type 0) (f : X → E) where
       → AllElements is_element f (flat_map (λ y. map (g y) zs) ys)
   AllElements-pairs g ys zs in_each =
       AllElements-flat_map (λ y. map (g y) zs) ys (λ y y_in. AllElements-map (g y) zs (in_each y y_in))
-
-  pub AllElements-set : (xs : List X) (i : ℕ) (y : X) → AllElements is_element f xs → is_element (f y)
-      → AllElements is_element f (set xs i y)
-  AllElements-set [] i y in_xs in_y = in_xs
-  AllElements-set (x ∷ xs) zero y in_xs in_y = λ z z_in. elim z_in [
-    | inl same ↦ subst (λ w. is_element (f w)) (sym same) in_y
-    | inr later ↦ in_xs z (inr later)
-  ]
-  AllElements-set (x ∷ xs) (suc i) y in_xs in_y = λ z z_in. elim z_in [
-    | inl same ↦ in_xs z (inl same)
-    | inr later ↦ AllElements-set xs i y (λ w w_in. in_xs w (inr w_in)) in_y z later
-  ]
 
 module _ {X : Type 0} where
   pub IsIn-get_or : (xs : List X) (i : ℕ) (default : X) → i < length xs → IsIn (get_or xs i default) xs

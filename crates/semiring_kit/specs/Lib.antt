@@ -3,4 +3,10 @@ pub mod Total
 pub mod Chosen
 pub mod ChosenLaws
 pub mod MaxPlus
-pub mod MaxPlusLaws
+pub mod MinPlus
+pub mod WeightLaws
+pub mod Count
+pub mod CountLaws
+pub mod Truth
+pub mod TruthLaws
+pub mod Aggregates

@@ -19,7 +19,7 @@ impl Semiring for MaxPlus {
     ghost use Rattle.std.specs.Prelude.{Some};
     ghost use Rattle.std.proofs.Common.{arith};
     ghost use Rattle.semiring_kit.specs.MaxPlus.{max_plus};
-    ghost use Rattle.semiring_kit.specs.MaxPlusLaws.{max_plus-IsSemiring};
+    ghost use Rattle.semiring_kit.specs.WeightLaws.{max_plus-IsSemiring};
 
     type Elem = Option<i64>;
 

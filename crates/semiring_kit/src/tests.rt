@@ -83,8 +83,79 @@ fn the_greatest_weight(rt: HostRuntime) -> Result<(), Fail> {
 }
 
 #[test]
-fn zero_one_and_a_mark(rt: HostRuntime) -> Result<(), Fail> {
-    let elements = constants(&MaxPlus, rt.alloc(), -4)?;
-    assert_eq!(rt; elements, (None, Some(0), Some(-4)));
+fn the_least_weight(rt: HostRuntime) -> Result<(), Fail> {
+    let alloc = rt.alloc();
+    let cases = [
+        (None, None, None, None),
+        (None, Some(3), Some(3), None),
+        (Some(-2), None, Some(-2), None),
+        (Some(-2), Some(3), Some(-2), Some(1)),
+        (Some(5), Some(-7), Some(-7), Some(-2)),
+    ];
+    for (left, right, sum, product) in cases {
+        let (left, right) = (weight(left), weight(right));
+        let answers = combined::<MinPlus, Brand>(&MinPlus, alloc, &left, &right, Blank::new(1))?;
+        assert_eq!(rt;
+            answers,
+            (left, weight(sum), weight(product)),
+            "at {left:?} and {right:?}"
+        );
+    }
     Ok(())
+}
+
+#[test]
+fn how_many_there_are(rt: HostRuntime) -> Result<(), Fail> {
+    let alloc = rt.alloc();
+    let all = 18446744073709551615;
+    let half = 9223372036854775808;
+    let cases: [(u64, u64, u64, u64); 8] = [
+        (0, 0, 0, 0),
+        (0, 7, 7, 0),
+        (3, 4, 7, 12),
+        (half, half - 1, all, all),
+        (half, half, all, all),
+        (half, 2, half + 2, all),
+        (all, 1, all, all),
+        (all, 0, all, 0),
+    ];
+    for (left, right, sum, product) in cases {
+        let answers = combined::<Count, Brand>(&Count, alloc, &left, &right, Blank::new(1))?;
+        assert_eq!(rt; answers, (left, sum, product), "at {left} and {right}");
+    }
+    Ok(())
+}
+
+#[test]
+fn whether_there_is_any(rt: HostRuntime) -> Result<(), Fail> {
+    let alloc = rt.alloc();
+    let cases = [
+        (false, false, false, false),
+        (false, true, true, false),
+        (true, false, true, false),
+        (true, true, true, true),
+    ];
+    for (left, right, sum, product) in cases {
+        let answers = combined::<Truth, Brand>(&Truth, alloc, &left, &right, Blank::new(1))?;
+        assert_eq!(rt; answers, (left, sum, product), "at {left} and {right}");
+    }
+    Ok(())
+}
+
+#[test]
+fn zero_one_and_a_mark(rt: HostRuntime) -> Result<(), Fail> {
+    let greatest = constants(&MaxPlus, rt.alloc(), -4)?;
+    assert_eq!(rt; greatest, (None, Some(0), Some(-4)));
+    let least = constants(&MinPlus, rt.alloc(), -4)?;
+    assert_eq!(rt; least, (None, Some(0), Some(-4)));
+    let count = constants(&Count, rt.alloc(), -4)?;
+    assert_eq!(rt; count, (0, 1, 1));
+    let any = constants(&Truth, rt.alloc(), -4)?;
+    assert_eq!(rt; any, (false, true, true));
+    Ok(())
+}
+
+#[test]
+fn the_law_of_sums(_rt: HostRuntime) {
+    sums_are_aggregates();
 }

@@ -1,4 +1,4 @@
-use Rattle.fuse_core.proofs.Leaves.{join-cost}
+use Rattle.fuse_core.proofs.Costs.{join-cost}
 use Rattle.fuse_core.proofs.Reading.{most-within}
 use Rattle.fuse_core.proofs.plan.PlanFused.join.Goals as goal
 

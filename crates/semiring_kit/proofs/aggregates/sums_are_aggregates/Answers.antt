@@ -1,0 +1,12 @@
+use Rattle.semiring_kit.proofs.KitSums.{sum_counts, sum_tells, sum_is_greatest, sum_is_least, greatest_is_upper, least_is_lower}
+use Rattle.semiring_kit.proofs.aggregates.sums_are_aggregates.Goals as goal
+
+pub returns : goal.returns
+returns c = record {
+  count = sum_counts;
+  truth = sum_tells;
+  max_plus = sum_is_greatest;
+  min_plus = sum_is_least;
+  greatest = greatest_is_upper;
+  least = least_is_lower;
+}

@@ -1,0 +1,4 @@
+use Rattle.semiring_kit.proofs.tests.whether_there_is_any.Given as goal
+
+abbrev pub ghosts-combined : goal.ghosts-combined
+ghosts-combined g a = record { name = a.blank.name; parts = a.blank.parts }

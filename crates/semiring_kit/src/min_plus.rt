@@ -1,0 +1,91 @@
+//! The least sum of weights. The operations are in specs/MinPlus.antt.
+
+ghost use Rattle.std.specs.Prelude.{◌≡◌, ◌+◌, ◌≤◌};
+ghost use Rattle.semiring_kit.specs.MinPlus.{min_plus};
+ghost use Rattle.semiring_kit.specs.Semiring.{weight_bound};
+
+use crate::semiring::Semiring;
+use shape_gen::Mark;
+use std::alloc::{AllocError, Global};
+use std::sync::ledger::Ledger;
+use step_count::Steps;
+
+/// The least total weight. None is the total of nothing, above each weight.
+/// No method takes memory, and each answers Ok.
+#[derive(Clone, Copy, Drop)]
+pub struct MinPlus;
+
+impl Semiring for MinPlus {
+    ghost use Rattle.std.specs.Prelude.{Some};
+    ghost use Rattle.std.proofs.Common.{arith};
+    ghost use Rattle.semiring_kit.specs.MinPlus.{min_plus};
+    ghost use Rattle.semiring_kit.specs.WeightLaws.{min_plus-IsSemiring};
+
+    type Elem = Option<i64>;
+
+    ghost ring = { λ kit. min_plus };
+
+    ghost of_mark = { λ kit mark weight. Some weight };
+
+    ghost laws = { λ kit. min_plus-IsSemiring };
+
+    ghost mark_is_sound = { λ kit mark weight. tt };
+
+    ghost mark_reach = { λ kit mark weight. Prim.omega arith };
+
+    fn zero(&self, _alloc: Global) -> Result<Option<i64>, AllocError>
+        ensures { result ≡ Ok min_plus.zero }
+    {
+        Ok(None)
+    }
+
+    fn one(&self, _alloc: Global) -> Result<Option<i64>, AllocError>
+        ensures { result ≡ Ok min_plus.one }
+    {
+        Ok(Some(0))
+    }
+
+    fn of_mark(&self, _alloc: Global, _mark: Mark, weight: i64) -> Result<Option<i64>, AllocError>
+        ensures { result ≡ Ok (Some weight) }
+    {
+        Ok(Some(weight))
+    }
+
+    fn copy(&self, _alloc: Global, a: &Option<i64>) -> Result<Option<i64>, AllocError>
+        ensures { result ≡ Ok a.now }
+    {
+        Ok(*a)
+    }
+
+    fn add(
+        &self,
+        _alloc: Global,
+        a: &Option<i64>,
+        b: &Option<i64>,
+    ) -> Result<Option<i64>, AllocError>
+        ensures { result ≡ Ok (min_plus.add a.now b.now) }
+    {
+        Ok(match (*a, *b) {
+            (None, other) | (other, None) => other,
+            (Some(x), Some(y)) => Some(x.min(y)),
+        })
+    }
+
+    fn mul<L: Ledger>(
+        &self,
+        _alloc: Global,
+        a: &Option<i64>,
+        b: &Option<i64>,
+        steps: &mut Steps<L>,
+    ) -> Result<Option<i64>, AllocError>
+        requires reaches_add_up { min_plus.reach a.now + min_plus.reach b.now ≤ weight_bound }
+        ensures value { result ≡ Ok (min_plus.mul a.now b.now) }
+        ensures one_step { steps.new ≡ steps.old + 1 }
+    {
+        steps.tick();
+        Ok(match (*a, *b) {
+            (Some(x), Some(y)) => Some(x + y),
+            _ => None,
+        })
+    }
+}
