@@ -5,3 +5,4 @@ pub mod Parts
 pub mod Cases
 pub mod Ascending
 pub mod Weights
+pub mod InRange

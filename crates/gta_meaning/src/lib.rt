@@ -14,3 +14,6 @@ pub use heavy::first_heavy;
 pub use passing::passes;
 pub use totals::weight_of;
 pub use values::{VALUE_BOUND, value_of};
+
+#[cfg(test)]
+mod tests;

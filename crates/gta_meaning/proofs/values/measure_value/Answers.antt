@@ -34,5 +34,6 @@ returns-then-holds-clause-value c =
 
 pub returns-clause-value : goal.returns-clause-value
 returns-clause-value c =
-    measure_value-none c.args.rows.now c.args.row c.args.label c.args.measure.now _ c.deref-case-items.ensures.value
-    (λ k d less. c.loop-case.invariant k d (omega arith))
+    let none = measure_value-none c.args.rows.now c.args.row c.args.label c.args.measure.now _
+    c.deref-case-items.ensures.value (λ k d less. c.loop-case.invariant k d (omega arith)) in
+    omega (arith, ints, none)
