@@ -1,0 +1,42 @@
+-- What an aggregate answers over the candidates that pass.
+use Rattle.std.specs.Prelude.{ℕ, min, ℤ, Bool, nat_lt, List, [], ◌∷◌, map, length, Option, Some, None}
+use Rattle.std.specs.Int.{int_max, int_min}
+use Rattle.std.specs.List.{fold}
+use Rattle.gta_checked.specs.declared.rows.Rows.{Rows}
+use Rattle.gta_checked.specs.Plain.{PlainChecked}
+use Rattle.gta_meaning.specs.Values.{total}
+use Rattle.gta_meaning.specs.Kept.{kept}
+
+-- no number above this one is told from it
+abbrev pub count_cap : ℕ
+count_cap = 18446744073709551615
+
+-- how many candidates pass, cut at the cap
+abbrev pub count : PlainChecked → Rows → ℕ
+count checked rows = min (length (kept checked rows)) count_cap
+
+-- whether a candidate passes
+abbrev pub any : PlainChecked → Rows → Bool
+any checked rows = nat_lt 0 (length (kept checked rows))
+
+-- the totals of the candidates that pass
+abbrev pub totals : PlainChecked → Rows → ℕ → List ℤ
+totals checked rows measure = map (total checked rows measure) (kept checked rows)
+
+-- the greatest of a list, or none where it is empty
+abbrev pub greatest_of : List ℤ → Option ℤ
+greatest_of [] = None
+greatest_of (x ∷ xs) = Some (fold int_max x xs)
+
+-- the least of a list, or none where it is empty
+abbrev pub least_of : List ℤ → Option ℤ
+least_of [] = None
+least_of (x ∷ xs) = Some (fold int_min x xs)
+
+-- the greatest total of the candidates that pass, or none where none passes
+abbrev pub greatest : PlainChecked → Rows → ℕ → Option ℤ
+greatest checked rows measure = greatest_of (totals checked rows measure)
+
+-- the least total of the candidates that pass, or none where none passes
+abbrev pub least : PlainChecked → Rows → ℕ → Option ℤ
+least checked rows measure = least_of (totals checked rows measure)

@@ -1,0 +1,6 @@
+pub mod Values
+pub mod InRange
+pub mod Tests
+pub mod Kept
+pub mod Answers
+pub mod Heavy

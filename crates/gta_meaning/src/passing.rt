@@ -1,0 +1,54 @@
+//! Whether a candidate passes the tests.
+
+ghost use Rattle.std.specs.Prelude.{◌≡◌, length};
+ghost use Rattle.gta_checked.specs.Plain.{plain_test};
+ghost use Rattle.gta_checked.specs.Within.{IsCheckWithin, IsTestWithin};
+ghost use Rattle.gta_meaning.specs.InRange.{HasColumnsOf, IsInRange, label_count};
+ghost use Rattle.gta_meaning.specs.Tests as tests;
+
+use crate::candidate::Candidate;
+use crate::totals::weight_of;
+use crate::values::compares;
+use gta_checked::{Checked, Rows, Test};
+use gta_spec::Check;
+
+/// Whether every test of the specification holds of the candidate. Takes no memory.
+pub fn passes(checked: &Checked, rows: &Rows, candidate: &Candidate) -> bool
+    requires columns { HasColumnsOf checked.now rows.now }
+    requires in_range { IsInRange rows.now.count (label_count checked.now) candidate.now.marks.items }
+    ensures { result ≡ tests.passes checked.now rows.now candidate.now.marks.items }
+{
+    for test in checked.tests() {
+        if !passes_test(checked, rows, candidate, test) {
+            return false;
+        }
+    }
+    true
+}
+
+fn passes_test(checked: &Checked, rows: &Rows, candidate: &Candidate, test: &Test) -> bool
+    requires columns { HasColumnsOf checked.now rows.now }
+    requires in_range { IsInRange rows.now.count (label_count checked.now) candidate.now.marks.items }
+    requires within { IsTestWithin (length checked.now.columns) (length checked.now.labels)
+        (length checked.now.measures) (plain_test test.now) }
+    ensures { result ≡ tests.passes_test checked.now rows.now candidate.now.marks.items (plain_test test.now) }
+{
+    match test {
+        Test::Sum { measure, check } => {
+            meets(*check, weight_of(checked, rows, *measure, candidate))
+        }
+        Test::Length { check } => meets(*check, candidate.marks.len() as i128),
+        // No specification has tables yet.
+        Test::Fold { .. } => false,
+    }
+}
+
+fn meets(check: Check, total: i128) -> bool
+    requires within { IsCheckWithin check }
+    ensures { result ≡ tests.meets check total }
+{
+    match check {
+        Check::Compare { cmp, number } => compares(cmp, total, number as i128),
+        Check::Mod { modulus, residue } => { total.rem_euclid(modulus as i128) == residue as i128 }
+    }
+}
