@@ -8,7 +8,8 @@ use Rattle.gta_checked.specs.Plain.{PlainCase, plain_case, plain_measure}
 use Rattle.gta_meaning.specs.Values.{holds, form_value, case_value, measure_value}
 use Rattle.gta_meaning.proofs.First.{find-map-first, find-map-none}
 
-module _ (rows : Rows) (row label : ℕ) (measure : Measure) (items : List Case) (same : items ≡ measure.cases.items) where
+module _ (rows : Rows) (row label : ℕ) (measure : Measure) (items : List Case)
+    (same : items ≡ measure.cases.items) where
   abbrev picks : PlainCase → Bool
   picks case = holds rows row label case.cond
 

@@ -25,7 +25,8 @@ ascending-push xs y ascends below k in_list =
     ⊎_elim inner (λ ge. last (omega arith)) (cases_lt (k + 1) (length xs))
 
 -- a row that isn't taken
-pub in_range-skip : (rows labels : ℕ) (marks : List Mark) → IsInRange rows labels marks → IsInRange (rows + 1) labels marks
+pub in_range-skip : (rows labels : ℕ) (marks : List Mark) → IsInRange rows labels marks
+    → IsInRange (rows + 1) labels marks
 in_range-skip rows labels marks in_range =
     record {
       each = All-weaker (IsMarkInRange rows labels) (IsMarkInRange (rows + 1) labels)

@@ -6,3 +6,4 @@ pub mod Cases
 pub mod Ascending
 pub mod Weights
 pub mod InRange
+pub mod Generated

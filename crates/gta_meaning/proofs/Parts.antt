@@ -17,15 +17,17 @@ module _ {A B : Type 0} (f : A → B) (items : List A) (plains : List B) (same :
       let in_plains : i < length plains = omega (arith, sym (length-map items f) ∙ ap length same) in
       subst P (sym (item-at i x (f x) below is)) (all i (f x) in_plains)
 
-pub case-within : (columns labels : ℕ) (cases items : List Case) (i : ℕ) (case : Case) → items ≡ cases → i < length items
-    → case ≡ get_or items i case → All (IsCaseWithin columns labels) (map plain_case cases)
+pub case-within : (columns labels : ℕ) (cases items : List Case) (i : ℕ) (case : Case)
+    → items ≡ cases → i < length items → case ≡ get_or items i case → All (IsCaseWithin columns labels) (map plain_case cases)
     → IsCaseWithin columns labels (plain_case case)
 case-within columns labels cases items i case same below is all =
-    item-within plain_case items (map plain_case cases) (ap (map plain_case) same) (IsCaseWithin columns labels) i case below is all
+    item-within plain_case items (map plain_case cases) (ap (map plain_case) same)
+    (IsCaseWithin columns labels) i case below is all
 
 -- the measure at i
 pub measure-at : (items : List Measure) (measures : List (List PlainCase)) (i : ℕ) (measure : Measure)
     → map plain_measure items ≡ measures → i < length measures → measure ≡ get_or items i measure
     → plain_measure measure ≡ get_or measures i []
 measure-at items measures i measure same below is =
-    item-at plain_measure items measures same i measure [] (omega (arith, sym (length-map items plain_measure) ∙ ap length same)) is
+    item-at plain_measure items measures same i measure []
+    (omega (arith, sym (length-map items plain_measure) ∙ ap length same)) is

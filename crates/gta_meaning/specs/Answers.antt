@@ -1,5 +1,6 @@
 -- What an aggregate answers over the candidates that pass.
-use Rattle.std.specs.Prelude.{ℕ, min, ℤ, Bool, nat_lt, List, [], ◌∷◌, map, length, Option, Some, None}
+use Rattle.std.specs.Prelude.{ℕ, min, ℤ, Bool, nat_lt, List, [], ◌∷◌, map, length}
+use Rattle.std.specs.Prelude.{Option, Some, None}
 use Rattle.std.specs.Int.{int_max, int_min}
 use Rattle.std.specs.List.{fold}
 use Rattle.gta_checked.specs.declared.rows.Rows.{Rows}
@@ -7,7 +8,7 @@ use Rattle.gta_checked.specs.Plain.{PlainChecked}
 use Rattle.gta_meaning.specs.Values.{total}
 use Rattle.gta_meaning.specs.Kept.{kept}
 
--- no number above this one is told from it
+-- a greater number of candidates is cut to this one
 abbrev pub count_cap : ℕ
 count_cap = 18446744073709551615
 

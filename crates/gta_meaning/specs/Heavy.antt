@@ -1,5 +1,6 @@
--- The first row at which the weights of the aggregate's measure could add up past the bound of all numbers.
-use Rattle.std.specs.Prelude.{ℕ, ◌+◌, max, Bool, nat_abs, nat_lt, List, map, sum, Option, Some, None}
+-- The first row at which the weights of the aggregate's measure could add up past the bound.
+use Rattle.std.specs.Prelude.{ℕ, ◌+◌, max, nat_abs, Bool, nat_lt, List, map, sum}
+use Rattle.std.specs.Prelude.{Option, Some, None}
 use Rattle.std.specs.List.{find, fold, range_with_len}
 use Rattle.gta_text.specs.declared.numbers.TheConstants.{NUMBER_BOUND}
 use Rattle.gta_checked.specs.declared.rows.Rows.{Rows}
@@ -20,7 +21,8 @@ goal_measure (Best k greatest measure) = Some measure
 -- the absolute values of a measure at a row, label by label
 abbrev pub sizes : PlainChecked → Rows → ℕ → ℕ → List ℕ
 sizes checked rows measure row =
-    map (λ label. nat_abs (value checked rows measure row label)) (range_with_len 0 (label_count checked))
+    map (λ label. nat_abs (value checked rows measure row label))
+    (range_with_len 0 (label_count checked))
 
 -- the greatest of them
 abbrev pub row_weight : PlainChecked → Rows → ℕ → ℕ → ℕ
@@ -28,11 +30,13 @@ row_weight checked rows measure row = fold max 0 (sizes checked rows measure row
 
 -- the weights of the first rows, added up
 abbrev pub weight_of_rows : PlainChecked → Rows → ℕ → ℕ → ℕ
-weight_of_rows checked rows measure count = sum (map (row_weight checked rows measure) (range_with_len 0 count))
+weight_of_rows checked rows measure count =
+    sum (map (row_weight checked rows measure) (range_with_len 0 count))
 
 -- the rows up to this one and with it weigh more than the bound
 abbrev pub is_heavy : PlainChecked → Rows → ℕ → ℕ → Bool
-is_heavy checked rows measure row = nat_lt NUMBER_BOUND (weight_of_rows checked rows measure (row + 1))
+is_heavy checked rows measure row =
+    nat_lt NUMBER_BOUND (weight_of_rows checked rows measure (row + 1))
 
 -- the first such row
 abbrev pub first_past : PlainChecked → Rows → ℕ → Option ℕ

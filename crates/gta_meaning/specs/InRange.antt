@@ -21,3 +21,7 @@ pub record IsMarkInRange (rows labels : ℕ) (mark : Mark) : Type 0 where
 pub record IsInRange (rows labels : ℕ) (marks : List Mark) : Type 0 where
   pub each : All (IsMarkInRange rows labels) marks
   pub ascending : IsStrictlyIncreasing (map (λ mark. mark.row) marks)
+
+-- each mark has a row of the table and a label of the specification, and the rows ascend strictly
+abbrev pub IsInRangeOf : PlainChecked → Rows → List Mark → Type 0
+IsInRangeOf checked rows marks = IsInRange rows.count (label_count checked) marks

@@ -10,7 +10,8 @@ use Rattle.gta_checked.specs.declared.rows.Rows.{Rows}
 use Rattle.gta_checked.specs.Plain.{PlainTest, Sum, Length, Fold, PlainChecked}
 use Rattle.gta_meaning.specs.Values.{compares, total}
 
--- a number compares with the bound as written, or its least nonnegative remainder by the modulus is the residue
+-- a number compares with the bound as written, or has the residue as its remainder, which is the
+-- least nonnegative one
 abbrev pub meets : Check → ℤ → Bool
 meets (Compare cmp number) total = compares cmp total number
 meets (Mod modulus residue) total = int_eq (int_rem_euclid total (pos modulus)) (pos residue)

@@ -54,12 +54,15 @@ case_value rows row (Some case) = form_value rows row case.form
 
 -- the linear form of the first case whose condition holds, and 0 where none does
 abbrev pub measure_value : Rows → ℕ → ℕ → List PlainCase → ℤ
-measure_value rows row label cases = case_value rows row (find (λ case. holds rows row label case.cond) cases)
+measure_value rows row label cases =
+    case_value rows row (find (λ case. holds rows row label case.cond) cases)
 
 -- the value of a measure at a row with a label
 abbrev pub value : PlainChecked → Rows → ℕ → ℕ → ℕ → ℤ
-value checked rows measure row label = measure_value rows row label (slice_index_or checked.measures measure [])
+value checked rows measure row label =
+    measure_value rows row label (slice_index_or checked.measures measure [])
 
 -- the exact sum of the values of a candidate's marks
 abbrev pub total : PlainChecked → Rows → ℕ → List Mark → ℤ
-total checked rows measure marks = sum_of (map (λ mark. value checked rows measure mark.row mark.label) marks)
+total checked rows measure marks =
+    sum_of (map (λ mark. value checked rows measure mark.row mark.label) marks)

@@ -9,9 +9,9 @@ use crate::values::{VALUE_BOUND, value_of};
 use gta_checked::{Checked, Goal, Rows};
 use gta_text::NUMBER_BOUND;
 
-/// The first row, counted from 0, at which the rows so far could weigh more than `NUMBER_BOUND` by the aggregate's
-/// measure; each row counts with its greatest absolute value over all labels. None where there is no such row, or
-/// the aggregate has no measure. Takes no memory.
+/// The first row, counted from 0, at which the rows so far could weigh more than `NUMBER_BOUND`.
+/// Each row counts with the greatest absolute value of the aggregate's measure over all labels.
+/// None where there is no such row, or the aggregate has no measure. Takes no memory.
 pub fn first_heavy(checked: &Checked, rows: &Rows) -> Option<u32>
     requires { HasColumnsOf checked.now rows.now }
     ensures { result ≡ heavy.first_heavy checked.now rows.now }

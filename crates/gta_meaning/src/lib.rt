@@ -1,6 +1,7 @@
 //! The plain meaning of a checked specification and its table, by lists and exact whole numbers.
-//! specs/Values.antt has values and totals, specs/Tests.antt what passes, specs/Kept.antt the candidates that pass,
-//! specs/Answers.antt what is asked of them, and specs/Heavy.antt the first row past the bound of weights.
+//! specs/Values.antt has values and totals, specs/Tests.antt what passes, specs/Kept.antt the
+//! candidates that pass, specs/Answers.antt what is asked of them, and specs/Heavy.antt the first
+//! row past the bound of weights.
 #![tactic(auto)]
 
 mod candidate;

@@ -3,7 +3,7 @@
 ghost use Rattle.std.specs.Prelude.{◌≡◌, length};
 ghost use Rattle.gta_checked.specs.Plain.{plain_test};
 ghost use Rattle.gta_checked.specs.Within.{IsCheckWithin, IsTestWithin};
-ghost use Rattle.gta_meaning.specs.InRange.{HasColumnsOf, IsInRange, label_count};
+ghost use Rattle.gta_meaning.specs.InRange.{HasColumnsOf, IsInRangeOf};
 ghost use Rattle.gta_meaning.specs.Tests as tests;
 
 use crate::candidate::Candidate;
@@ -15,7 +15,7 @@ use gta_spec::Check;
 /// Whether every test of the specification holds of the candidate. Takes no memory.
 pub fn passes(checked: &Checked, rows: &Rows, candidate: &Candidate) -> bool
     requires columns { HasColumnsOf checked.now rows.now }
-    requires in_range { IsInRange rows.now.count (label_count checked.now) candidate.now.marks.items }
+    requires in_range { IsInRangeOf checked.now rows.now candidate.now.marks.items }
     ensures { result ≡ tests.passes checked.now rows.now candidate.now.marks.items }
 {
     for test in checked.tests() {
@@ -28,10 +28,11 @@ pub fn passes(checked: &Checked, rows: &Rows, candidate: &Candidate) -> bool
 
 fn passes_test(checked: &Checked, rows: &Rows, candidate: &Candidate, test: &Test) -> bool
     requires columns { HasColumnsOf checked.now rows.now }
-    requires in_range { IsInRange rows.now.count (label_count checked.now) candidate.now.marks.items }
+    requires in_range { IsInRangeOf checked.now rows.now candidate.now.marks.items }
     requires within { IsTestWithin (length checked.now.columns) (length checked.now.labels)
         (length checked.now.measures) (plain_test test.now) }
-    ensures { result ≡ tests.passes_test checked.now rows.now candidate.now.marks.items (plain_test test.now) }
+    ensures { result
+        ≡ tests.passes_test checked.now rows.now candidate.now.marks.items (plain_test test.now) }
 {
     match test {
         Test::Sum { measure, check } => {

@@ -1,6 +1,6 @@
 //! Worked examples by hand: which candidates pass, what they weigh, and the first heavy row.
-//! One specification serves all: a column v, labels A and B, and measures v, onA = v if label A, and
-//! steps = -3*v + 2 if v >= 1 ; 7.
+//! One specification serves all: a column v, labels A and B, and measures v, onA = v if label A,
+//! and steps = -3*v + 2 if v >= 1 ; 7.
 
 ghost use Rattle.std.specs.Prelude.{◌≡◌, ◌<◌, ◌≤◌, ◌^◌, All, IsTrue, IfOk, length};
 ghost use Rattle.std.specs.List.{list_all};
@@ -128,7 +128,8 @@ fn spec_of(alloc: Global, test: Test, goal: Goal) -> Result<Checked, AllocError>
     Ok(Checked::of(1, columns, labels, measures, tests, Shape::Assign, goal))
 }
 
-// The candidate of a code's bits, row by row: 1 takes the row with the label A, 0 with B if every row is taken.
+// The candidate of a code's bits, row by row from the lowest: 1 takes the row with the label A.
+// Where every row is taken, 0 takes it with B.
 fn candidate_of(alloc: Global, rows: u32, code: u32, every: bool) -> Result<Candidate, AllocError>
     requires { rows ≤ 10 }
     ensures { IfOk result (λ candidate. IsInRange rows 2 candidate.marks.items) }

@@ -1,7 +1,7 @@
 //! The total of a measure over a candidate.
 
 ghost use Rattle.std.specs.Prelude.{◌≡◌, ◌<◌, length};
-ghost use Rattle.gta_meaning.specs.InRange.{HasColumnsOf, IsInRange, label_count};
+ghost use Rattle.gta_meaning.specs.InRange.{HasColumnsOf, IsInRangeOf};
 ghost use Rattle.gta_meaning.specs.Values.{total};
 
 use crate::candidate::Candidate;
@@ -13,7 +13,7 @@ use shape_gen::Mark;
 pub fn weight_of(checked: &Checked, rows: &Rows, measure: u32, candidate: &Candidate) -> i128
     requires columns { HasColumnsOf checked.now rows.now }
     requires measure_in_range { measure < length checked.now.measures }
-    requires in_range { IsInRange rows.now.count (label_count checked.now) candidate.now.marks.items }
+    requires in_range { IsInRangeOf checked.now rows.now candidate.now.marks.items }
     ensures { result ≡ total checked.now rows.now measure candidate.now.marks.items }
 {
     let mut sum = 0;

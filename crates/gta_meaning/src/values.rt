@@ -2,7 +2,7 @@
 
 ghost use Rattle.std.specs.Prelude.{◌≡◌, ℕ, ◌+◌, ◌<◌, ◌≤◌, ◌*ℤ◌, All, length, nat_abs};
 ghost use Rattle.gta_checked.specs.Plain.{plain_measure};
-ghost use Rattle.gta_checked.specs.Within.{IsAtomWithin, IsConditionWithin, IsMeasureWithin, IsTermWithin};
+ghost use Rattle.gta_checked.specs.Within.{IsAtomWithin, IsMeasureWithin, IsTermWithin};
 ghost use Rattle.gta_meaning.specs.InRange.{HasColumnsOf};
 ghost use Rattle.gta_meaning.specs.Values as values;
 

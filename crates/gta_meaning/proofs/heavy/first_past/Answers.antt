@@ -10,16 +10,22 @@ returns-then-sum c =
     let checked = c.args.checked.now in let rows = c.args.rows.now in
     let more = sum-more (row_weight checked rows c.args.measure) c.loop-row.row in
     let here : is_heavy checked rows c.args.measure c.loop-row.row ≡ true = grind (arith, nat_tests) in
-    sym (find-range-first (is_heavy checked rows c.args.measure) rows.count c.loop-row.row c.loop-row-test.true c.loop-row.invariant.before here)
+    sym (find-range-first (is_heavy checked rows c.args.measure) rows.count c.loop-row.row
+    c.loop-row-test.true c.loop-row.invariant.before here)
 
 pub loop-row-preserved : goal.loop-row-preserved
 loop-row-preserved c =
     let checked = c.args.checked.now in let rows = c.args.rows.now in
     let more = sum-more (row_weight checked rows c.args.measure) c.loop-row.row in
     let here : is_heavy checked rows c.args.measure c.loop-row.row ≡ false = grind (arith, nat_tests) in
-    record { so_far = omega (arith, more); within = omega arith; before = below_more _ _ c.loop-row.invariant.before here }
+    record {
+      so_far = omega (arith, more);
+      within = omega arith;
+      before = below_more _ _ c.loop-row.invariant.before here;
+    }
 
 pub returns : goal.returns
 returns c =
     let checked = c.args.checked.now in let rows = c.args.rows.now in
-    sym (find-range-none (is_heavy checked rows c.args.measure) rows.count (λ k below. c.loop-row.invariant.before k (omega arith)))
+    sym (find-range-none (is_heavy checked rows c.args.measure) rows.count
+    (λ k below. c.loop-row.invariant.before k (omega arith)))

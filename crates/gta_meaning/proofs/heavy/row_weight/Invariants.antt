@@ -6,6 +6,7 @@ use Rattle.gta_meaning.proofs.heavy.row_weight.Given as goal
 
 abbrev pub invariant-loop-label : goal.invariant-loop-label
 invariant-loop-label l = record {
-  so_far : l.greatest ≡ fold max 0 (map (λ label. nat_abs (value l.checked l.rows l.measure l.row label)) (range_with_len 0 l.label));
+  so_far : l.greatest ≡ fold max 0
+      (map (λ label. nat_abs (value l.checked l.rows l.measure l.row label)) (range_with_len 0 l.label));
   within : l.greatest ≤ VALUE_BOUND;
 }

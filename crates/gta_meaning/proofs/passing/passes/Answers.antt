@@ -21,15 +21,17 @@ pub returns-then-not-passes_test : goal.returns-then-not-passes_test
 returns-then-not-passes_test c =
     let holds = tests.passes_test c.args.checked.now c.args.rows.now c.args.candidate.now.marks.items in
     let same = ap (map plain_test) c.deref-test-items.ensures.value ∙ c.tests.ensures.tests in
-    let fails : holds (plain_test c.test-item.result) ≡ false = sym c.passes_test.ensures ∙ c.if-not-passes_test.true in
+    let fails : holds (plain_test c.test-item.result) ≡ false =
+    sym c.passes_test.ensures ∙ c.if-not-passes_test.true in
     sym (ap (list_all holds) (sym same) ∙ list_all-map holds plain_test c.deref-test-items.result.now
-    ∙ list_all_at (λ (test : Test). holds (plain_test test)) c.deref-test-items.result.now c.loop-test.test-index c.test-item.result
-    c.loop-test-test.true (ap (λ (test : Test). holds (plain_test test)) (sym c.test-item.is) ∙ fails))
+    ∙ list_all_at (λ (test : Test). holds (plain_test test)) c.deref-test-items.result.now
+    c.loop-test.test-index c.test-item.result c.loop-test-test.true (ap (λ (test : Test). holds (plain_test test)) (sym c.test-item.is) ∙ fails))
 
 pub returns : goal.returns
 returns c =
     let holds = tests.passes_test c.args.checked.now c.args.rows.now c.args.candidate.now.marks.items in
     let same = ap (map plain_test) c.deref-test-items.ensures.value ∙ c.tests.ensures.tests in
     sym (ap (list_all holds) (sym same) ∙ list_all-map holds plain_test c.deref-test-items.result.now
-    ∙ ap (list_all (λ (test : Test). holds (plain_test test))) (sym (take_all c.loop-test.test-index c.deref-test-items.result.now c.loop-test-test.false))
+    ∙ ap (list_all (λ (test : Test). holds (plain_test test)))
+    (sym (take_all c.loop-test.test-index c.deref-test-items.result.now c.loop-test-test.false))
     ∙ c.loop-test.invariant)

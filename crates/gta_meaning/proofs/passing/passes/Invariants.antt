@@ -6,4 +6,5 @@ use Rattle.gta_meaning.proofs.passing.passes.Given as goal
 
 abbrev pub invariant-loop-test : goal.invariant-loop-test
 invariant-loop-test l =
-    list_all (λ test. tests.passes_test l.checked l.rows l.candidate.marks.items (plain_test test)) (take l.test-index l.test-items) ≡ true
+    list_all (λ test. tests.passes_test l.checked l.rows l.candidate.marks.items (plain_test test))
+    (take l.test-index l.test-items) ≡ true

@@ -1,4 +1,4 @@
-use Rattle.std.proofs.Common.{ℕ, ◌+◌, ◌<◌, Bool, true, false, List, lit<, sym, ap, ◌∙◌, subst}
+use Rattle.std.proofs.Common.{◌+◌, ◌<◌, Bool, true, false, List, lit<, sym, ap, ◌∙◌, subst}
 use Rattle.shape_gen.specs.declared.mark.Mark.{Mark}
 use Rattle.gta_meaning.specs.InRange.{IsInRange}
 use Rattle.gta_meaning.proofs.InRange.{in_range-push, in_range-skip}

@@ -1,4 +1,4 @@
-use Rattle.std.proofs.Common.{◌≡◌, ◌≤◌, List, map, get_or, sym, subst, arith}
+use Rattle.std.proofs.Common.{◌≡◌, List, map, get_or, sym, subst, arith}
 use Rattle.std.proofs.lemmas.Int.{ints}
 use Rattle.std.specs.List.Sorted.{IsStrictlyIncreasing}
 use Rattle.shape_gen.specs.declared.mark.Mark.{Mark}
@@ -12,7 +12,8 @@ pub overflow_add-sum : goal.overflow_add-sum
 overflow_add-sum c =
     let ascends = subst (λ (marks : List Mark). IsStrictlyIncreasing (map (λ mark. mark.row) marks))
     (sym c.deref-row-items.ensures.value) c.requires.in_range.ascending in
-    let place = place-le-row c.deref-row-items.result.now c.loop-row.row-index (mark 0 0) ascends c.loop-row-test.true in
+    let marks = c.deref-row-items.result.now in
+    let place = place-le-row marks c.loop-row.row-index (mark 0 0) ascends c.loop-row-test.true in
     omega (arith, ints, place)
 
 pub loop-row-preserved : goal.loop-row-preserved
@@ -22,7 +23,8 @@ loop-row-preserved c =
     (sym c.deref-row-items.ensures.value) c.requires.in_range.ascending in
     let place = place-le-row marks c.loop-row.row-index (mark 0 0) ascends c.loop-row-test.true in
     let here = get_or marks c.loop-row.row-index (mark 0 0) in
-    let term : c.value_of-sum.result ≡ value c.args.checked.now c.args.rows.now c.args.measure here.row here.label = cc in
-    let more = total-more c.args.checked.now c.args.rows.now c.args.measure marks c.loop-row.row-index (mark 0 0) _ _
+    let checked = c.args.checked.now in let rows = c.args.rows.now in
+    let term : c.value_of-sum.result ≡ value checked rows c.args.measure here.row here.label = cc in
+    let more = total-more checked rows c.args.measure marks c.loop-row.row-index (mark 0 0) _ _
     c.loop-row-test.true c.loop-row.invariant.so_far term in
     record { so_far = omega (arith, ints, place, more); bounded = omega (arith, ints, place) }

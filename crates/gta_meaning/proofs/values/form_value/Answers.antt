@@ -5,6 +5,6 @@ use Rattle.gta_meaning.proofs.values.form_value.Goals as goal
 
 pub loop-term-preserved : goal.loop-term-preserved
 loop-term-preserved c =
-    let more = form_value-more c.args.rows.now c.args.row c.args.form.now c.loop-term.term-index _ _ _ c.loop-term-test.true
-    c.loop-term.invariant.so_far c.term_value-sum.ensures.value in
+    let more = form_value-more c.args.rows.now c.args.row c.args.form.now c.loop-term.term-index _ _ _
+    c.loop-term-test.true c.loop-term.invariant.so_far c.term_value-sum.ensures.value in
     record { so_far = omega (arith, ints, more); bounded = omega (arith, ints) }

@@ -7,4 +7,5 @@ use Rattle.gta_meaning.proofs.values.measure_value.Given as goal
 -- no case so far has a condition that holds
 abbrev pub invariant-loop-case : goal.invariant-loop-case
 invariant-loop-case l =
-    (k : ℕ) (d : Case) → k < l.case-index → values.holds l.rows l.row l.label (plain_case (get_or l.case-items k d)).cond ≡ false
+    (k : ℕ) (d : Case) → k < l.case-index
+    → values.holds l.rows l.row l.label (plain_case (get_or l.case-items k d)).cond ≡ false

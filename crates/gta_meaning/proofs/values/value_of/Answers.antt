@@ -7,6 +7,10 @@ use Rattle.gta_meaning.proofs.values.value_of.Goals as goal
 pub measure_value-requires-clause-within : goal.measure_value-requires-clause-within
 measure_value-requires-clause-within c =
     let checked = c.args.checked.now in let rows = c.args.rows.now in
-    let at = measure-at c.measures.result.now.items checked.measures c.args.measure c.index.result.now c.measures.ensures.measures c.requires.measure_in_range c.index.ensures in
+    let at = measure-at c.measures.result.now.items checked.measures c.args.measure c.index.result.now
+    c.measures.ensures.measures c.requires.measure_in_range c.index.ensures in
     let within = c.measures.ensures.within.measures c.args.measure [] c.requires.measure_in_range in
-    (length checked.labels, subst (λ columns. IsMeasureWithin columns (length checked.labels) (plain_measure c.index.result.now)) (sym c.requires.columns) (subst (IsMeasureWithin (length checked.columns) (length checked.labels)) (sym at) within))
+    let labels = length checked.labels in
+    let measure = plain_measure c.index.result.now in
+    let declared = subst (IsMeasureWithin (length checked.columns) labels) (sym at) within in
+    (labels, subst (λ columns. IsMeasureWithin columns labels measure) (sym c.requires.columns) declared)
