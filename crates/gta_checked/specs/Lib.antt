@@ -1,3 +1,4 @@
 pub mod Plain
 pub mod Within
 pub mod Cells
+pub mod PlainRows

@@ -1,14 +1,14 @@
 -- The value of a measure, by where its first case stands whose condition holds.
 use Rattle.std.proofs.Common.{◌≡◌, ℕ, ◌<◌, ℤ, pos, Bool, true, false, List, map, length, get_or, Option, sym, ap, ◌∙◌}
 use Rattle.std.specs.List.{find}
-use Rattle.gta_checked.specs.declared.rows.Rows.{Rows}
+use Rattle.gta_checked.specs.PlainRows.{PlainRows}
 use Rattle.gta_checked.specs.declared.resolved.Case.{Case}
 use Rattle.gta_checked.specs.declared.resolved.Measure.{Measure}
 use Rattle.gta_checked.specs.Plain.{PlainCase, plain_case, plain_measure}
 use Rattle.gta_meaning.specs.Values.{holds, form_value, case_value, measure_value}
 use Rattle.gta_meaning.proofs.First.{find-map-first, find-map-none}
 
-module _ (rows : Rows) (row label : ℕ) (measure : Measure) (items : List Case)
+module _ (rows : PlainRows) (row label : ℕ) (measure : Measure) (items : List Case)
     (same : items ≡ measure.cases.items) where
   abbrev picks : PlainCase → Bool
   picks case = holds rows row label case.cond

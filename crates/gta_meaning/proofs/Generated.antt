@@ -9,7 +9,7 @@ use Rattle.shape_gen.specs.declared.mark.Mark.{Mark}
 use Rattle.shape_gen.specs.declared.shape.Shape.{Shape}
 use Rattle.shape_gen.specs.declared.shape.Shape.TheVariants.{Sublists, Assign, Prefixes, Suffixes, Segments}
 use Rattle.shape_gen.specs.Candidates.{mark, run, sublists, assignments, prefixes, segments, candidates}
-use Rattle.gta_checked.specs.declared.rows.Rows.{Rows}
+use Rattle.gta_checked.specs.PlainRows.{PlainRows}
 use Rattle.gta_checked.specs.Plain.{PlainChecked}
 use Rattle.gta_meaning.specs.InRange.{label_count, IsMarkInRange, IsInRange, IsInRangeOf}
 use Rattle.gta_meaning.specs.Kept.{generated}
@@ -118,7 +118,7 @@ module _ (hi labels : ℕ) (some : 0 < labels) where
   candidates-between Segments =
       All-cons (From 0) [] (segments 0 hi) tt (segments-between 0 hi (omega arith))
 
-pub generated-IsInRangeOf : (checked : PlainChecked) (rows : Rows) → All (IsInRangeOf checked rows) (generated checked rows)
+pub generated-IsInRangeOf : (checked : PlainChecked) (rows : PlainRows) → All (IsInRangeOf checked rows) (generated checked rows)
 generated-IsInRangeOf checked rows =
     let labels = label_count checked in
     All-weaker (Between 0 rows.count labels) (IsInRangeOf checked rows)

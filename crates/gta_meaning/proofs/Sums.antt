@@ -2,7 +2,7 @@
 use Rattle.std.proofs.Common.{◌≡◌, ℕ, ◌+◌, ◌<◌, ℤ, ◌+ℤ◌, List, [], ◌∷◌, ◌++◌, map, take, length, get_or, ap, ◌∙◌, arith}
 use Rattle.std.proofs.lemmas.Int.{ints}
 use Rattle.std.proofs.lemmas.List.{map-append, map_more}
-use Rattle.gta_checked.specs.declared.rows.Rows.{Rows}
+use Rattle.gta_checked.specs.PlainRows.{PlainRows}
 use Rattle.gta_checked.specs.declared.resolved.Term.{Term}
 use Rattle.gta_checked.specs.Plain.{PlainChecked}
 use Rattle.shape_gen.specs.declared.mark.Mark.{Mark}
@@ -22,14 +22,14 @@ sum_of-more f xs i d below =
     ap sum_of (map_more f xs i d below) ∙ sum_of-push (map f (take i xs)) (f (get_or xs i d))
 
 -- one more term of a linear form
-pub form_value-more : (rows : Rows) (row : ℕ) (form : List Term) (i : ℕ) (d : Term) (so_far term : ℤ)
+pub form_value-more : (rows : PlainRows) (row : ℕ) (form : List Term) (i : ℕ) (d : Term) (so_far term : ℤ)
     → i < length form → so_far ≡ form_value rows row (take i form) → term ≡ term_value rows row (get_or form i d)
     → so_far +ℤ term ≡ form_value rows row (take (i + 1) form)
 form_value-more rows row form i d so_far term below is_so_far is_term =
     let more = sum_of-more (term_value rows row) form i d below in cc
 
 -- one more mark of a candidate
-pub total-more : (checked : PlainChecked) (rows : Rows) (measure : ℕ)
+pub total-more : (checked : PlainChecked) (rows : PlainRows) (measure : ℕ)
     (marks : List Mark) (i : ℕ) (d : Mark) (so_far term : ℤ) → i < length marks
     → so_far ≡ total checked rows measure (take i marks)
     → term ≡ value checked rows measure (get_or marks i d).row (get_or marks i d).label
@@ -38,7 +38,7 @@ total-more checked rows measure marks i d so_far term below is_so_far is_term =
     let more = sum_of-more (λ (mark : Mark). value checked rows measure mark.row mark.label) marks i d below in cc
 
 -- the total over marks one after the other
-pub total-append : (checked : PlainChecked) (rows : Rows) (measure : ℕ) (front back : List Mark)
+pub total-append : (checked : PlainChecked) (rows : PlainRows) (measure : ℕ) (front back : List Mark)
     → total checked rows measure (front ++ back) ≡ total checked rows measure front +ℤ total checked rows measure back
 total-append checked rows measure front back =
     let value_of_mark = λ (mark : Mark). value checked rows measure mark.row mark.label in

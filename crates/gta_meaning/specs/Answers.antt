@@ -3,7 +3,7 @@ use Rattle.std.specs.Prelude.{ℕ, min, ℤ, Bool, nat_lt, List, [], ◌∷◌, 
 use Rattle.std.specs.Prelude.{Option, Some, None}
 use Rattle.std.specs.Int.{int_max, int_min}
 use Rattle.std.specs.List.{fold}
-use Rattle.gta_checked.specs.declared.rows.Rows.{Rows}
+use Rattle.gta_checked.specs.PlainRows.{PlainRows}
 use Rattle.gta_checked.specs.Plain.{PlainChecked}
 use Rattle.gta_meaning.specs.Values.{total}
 use Rattle.gta_meaning.specs.Kept.{kept}
@@ -13,15 +13,15 @@ abbrev pub count_cap : ℕ
 count_cap = 18446744073709551615
 
 -- how many candidates pass, cut at the cap
-abbrev pub count : PlainChecked → Rows → ℕ
+abbrev pub count : PlainChecked → PlainRows → ℕ
 count checked rows = min (length (kept checked rows)) count_cap
 
 -- whether a candidate passes
-abbrev pub any : PlainChecked → Rows → Bool
+abbrev pub any : PlainChecked → PlainRows → Bool
 any checked rows = nat_lt 0 (length (kept checked rows))
 
 -- the totals of the candidates that pass
-abbrev pub totals : PlainChecked → Rows → ℕ → List ℤ
+abbrev pub totals : PlainChecked → PlainRows → ℕ → List ℤ
 totals checked rows measure = map (total checked rows measure) (kept checked rows)
 
 -- the greatest of a list, or none where it is empty
@@ -35,9 +35,9 @@ least_of [] = None
 least_of (x ∷ xs) = Some (fold int_min x xs)
 
 -- the greatest total of the candidates that pass, or none where none passes
-abbrev pub greatest : PlainChecked → Rows → ℕ → Option ℤ
+abbrev pub greatest : PlainChecked → PlainRows → ℕ → Option ℤ
 greatest checked rows measure = greatest_of (totals checked rows measure)
 
 -- the least total of the candidates that pass, or none where none passes
-abbrev pub least : PlainChecked → Rows → ℕ → Option ℤ
+abbrev pub least : PlainChecked → PlainRows → ℕ → Option ℤ
 least checked rows measure = least_of (totals checked rows measure)

@@ -6,7 +6,7 @@ use Rattle.std.specs.List.{list_all}
 use Rattle.shape_gen.specs.declared.mark.Mark.{Mark}
 use Rattle.gta_spec.specs.declared.parts.Check.{Check}
 use Rattle.gta_spec.specs.declared.parts.Check.TheVariants.{Compare, Mod}
-use Rattle.gta_checked.specs.declared.rows.Rows.{Rows}
+use Rattle.gta_checked.specs.PlainRows.{PlainRows}
 use Rattle.gta_checked.specs.Plain.{PlainTest, Sum, Length, Fold, PlainChecked}
 use Rattle.gta_meaning.specs.Values.{compares, total}
 
@@ -17,12 +17,12 @@ meets (Compare cmp number) total = compares cmp total number
 meets (Mod modulus residue) total = int_eq (int_rem_euclid total (pos modulus)) (pos residue)
 
 -- the total of the measure meets the check, or the number of marks does
-abbrev pub passes_test : PlainChecked → Rows → List Mark → PlainTest → Bool
+abbrev pub passes_test : PlainChecked → PlainRows → List Mark → PlainTest → Bool
 passes_test checked rows marks (Sum measure check) = meets check (total checked rows measure marks)
 passes_test checked rows marks (Length check) = meets check (pos (length marks))
 -- no specification has tables yet, so no product is among the accepted elements
 passes_test checked rows marks (Fold table picks accept) = false
 
 -- every test holds
-abbrev pub passes : PlainChecked → Rows → List Mark → Bool
+abbrev pub passes : PlainChecked → PlainRows → List Mark → Bool
 passes checked rows marks = list_all (passes_test checked rows marks) checked.tests

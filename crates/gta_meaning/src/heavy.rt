@@ -1,6 +1,7 @@
 //! The first row past the bound of weights.
 
 ghost use Rattle.std.specs.Prelude.{◌≡◌, ◌<◌, ◌≤◌, length};
+ghost use Rattle.gta_checked.specs.PlainRows.{plain_rows};
 ghost use Rattle.gta_meaning.specs.InRange.{HasColumnsOf};
 ghost use Rattle.gta_meaning.specs.Heavy as heavy;
 
@@ -13,8 +14,8 @@ use gta_text::NUMBER_BOUND;
 /// Each row counts with the greatest absolute value of the aggregate's measure over all labels.
 /// None where there is no such row, or the aggregate has no measure. Takes no memory.
 pub fn first_heavy(checked: &Checked, rows: &Rows) -> Option<u32>
-    requires { HasColumnsOf checked.now rows.now }
-    ensures { result ≡ heavy.first_heavy checked.now rows.now }
+    requires { HasColumnsOf checked.now (plain_rows rows.now) }
+    ensures { result ≡ heavy.first_heavy checked.now (plain_rows rows.now) }
 {
     let measure = goal_measure(*checked.goal())?;
     first_past(checked, rows, measure)
@@ -31,9 +32,9 @@ fn goal_measure(goal: Goal) -> Option<u32>
 }
 
 fn first_past(checked: &Checked, rows: &Rows, measure: u32) -> Option<u32>
-    requires columns { HasColumnsOf checked.now rows.now }
+    requires columns { HasColumnsOf checked.now (plain_rows rows.now) }
     requires measure_in_range { measure < length checked.now.measures }
-    ensures { result ≡ heavy.first_past checked.now rows.now measure }
+    ensures { result ≡ heavy.first_past checked.now (plain_rows rows.now) measure }
 {
     let mut sum = 0;
     for row in 0..rows.count {
@@ -47,10 +48,10 @@ fn first_past(checked: &Checked, rows: &Rows, measure: u32) -> Option<u32>
 }
 
 fn row_weight(checked: &Checked, rows: &Rows, measure: u32, row: u32) -> u128
-    requires columns { HasColumnsOf checked.now rows.now }
+    requires columns { HasColumnsOf checked.now (plain_rows rows.now) }
     requires measure_in_range { measure < length checked.now.measures }
     requires row_in_range { row < rows.now.count }
-    ensures weight { result ≡ heavy.row_weight checked.now rows.now measure row }
+    ensures weight { result ≡ heavy.row_weight checked.now (plain_rows rows.now) measure row }
     ensures bounded { result ≤ VALUE_BOUND }
 {
     let mut greatest = 0;

@@ -3,6 +3,7 @@
 ghost use Rattle.std.specs.Prelude.{◌≡◌, length};
 ghost use Rattle.gta_checked.specs.Plain.{plain_test};
 ghost use Rattle.gta_checked.specs.Within.{IsCheckWithin, IsTestWithin};
+ghost use Rattle.gta_checked.specs.PlainRows.{plain_rows};
 ghost use Rattle.gta_meaning.specs.InRange.{HasColumnsOf, IsInRangeOf};
 ghost use Rattle.gta_meaning.specs.Tests as tests;
 
@@ -14,9 +15,9 @@ use gta_spec::Check;
 
 /// Whether every test of the specification holds of the candidate. Takes no memory.
 pub fn passes(checked: &Checked, rows: &Rows, candidate: &Candidate) -> bool
-    requires columns { HasColumnsOf checked.now rows.now }
-    requires in_range { IsInRangeOf checked.now rows.now candidate.now.marks.items }
-    ensures { result ≡ tests.passes checked.now rows.now candidate.now.marks.items }
+    requires columns { HasColumnsOf checked.now (plain_rows rows.now) }
+    requires in_range { IsInRangeOf checked.now (plain_rows rows.now) candidate.now.marks.items }
+    ensures { result ≡ tests.passes checked.now (plain_rows rows.now) candidate.now.marks.items }
 {
     for test in checked.tests() {
         if !passes_test(checked, rows, candidate, test) {
@@ -27,12 +28,12 @@ pub fn passes(checked: &Checked, rows: &Rows, candidate: &Candidate) -> bool
 }
 
 fn passes_test(checked: &Checked, rows: &Rows, candidate: &Candidate, test: &Test) -> bool
-    requires columns { HasColumnsOf checked.now rows.now }
-    requires in_range { IsInRangeOf checked.now rows.now candidate.now.marks.items }
+    requires columns { HasColumnsOf checked.now (plain_rows rows.now) }
+    requires in_range { IsInRangeOf checked.now (plain_rows rows.now) candidate.now.marks.items }
     requires within { IsTestWithin (length checked.now.columns) (length checked.now.labels)
         (length checked.now.measures) (plain_test test.now) }
     ensures { result
-        ≡ tests.passes_test checked.now rows.now candidate.now.marks.items (plain_test test.now) }
+        ≡ tests.passes_test checked.now (plain_rows rows.now) candidate.now.marks.items (plain_test test.now) }
 {
     match test {
         Test::Sum { measure, check } => {

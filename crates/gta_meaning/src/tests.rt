@@ -8,6 +8,7 @@ ghost use Rattle.gta_checked.specs.Cells.{is_cell};
 ghost use Rattle.gta_checked.specs.Plain.{plain_case, plain_measure, plain_test};
 ghost use Rattle.gta_checked.specs.Within.{IsAtomWithin, IsCaseWithin, IsGoalWithin};
 ghost use Rattle.gta_checked.specs.Within.{IsMeasureWithin, IsTermWithin, IsTestWithin};
+ghost use Rattle.gta_checked.specs.PlainRows.{plain_rows};
 ghost use Rattle.gta_meaning.specs.InRange.{HasColumnsOf, IsInRange, label_count};
 
 use super::*;
@@ -147,7 +148,7 @@ fn candidate_of(alloc: Global, rows: u32, code: u32, every: bool) -> Result<Cand
 
 // How many sublists or, where every row is taken, assignments pass.
 fn passing(alloc: Global, checked: &Checked, rows: &Rows, every: bool) -> Result<u32, AllocError>
-    requires columns { HasColumnsOf checked.now rows.now }
+    requires columns { HasColumnsOf checked.now (plain_rows rows.now) }
     requires labels { length checked.now.labels ≡ 2 }
     requires few { rows.now.count ≤ 10 }
 {

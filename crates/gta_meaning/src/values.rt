@@ -3,6 +3,7 @@
 ghost use Rattle.std.specs.Prelude.{◌≡◌, ℕ, ◌+◌, ◌<◌, ◌≤◌, ◌*ℤ◌, All, length, nat_abs};
 ghost use Rattle.gta_checked.specs.Plain.{plain_measure};
 ghost use Rattle.gta_checked.specs.Within.{IsAtomWithin, IsMeasureWithin, IsTermWithin};
+ghost use Rattle.gta_checked.specs.PlainRows.{plain_rows};
 ghost use Rattle.gta_meaning.specs.InRange.{HasColumnsOf};
 ghost use Rattle.gta_meaning.specs.Values as values;
 
@@ -18,10 +19,10 @@ pub const VALUE_BOUND: u128 = TERM_LIMIT as u128 * TERM_BOUND;
 
 /// The value of a measure at a row and a label, all counted from 0. Takes no memory.
 pub fn value_of(checked: &Checked, rows: &Rows, measure: u32, row: u32, label: u32) -> i128
-    requires columns { HasColumnsOf checked.now rows.now }
+    requires columns { HasColumnsOf checked.now (plain_rows rows.now) }
     requires measure_in_range { measure < length checked.now.measures }
     requires row_in_range { row < rows.now.count }
-    ensures value { result ≡ values.value checked.now rows.now measure row label }
+    ensures value { result ≡ values.value checked.now (plain_rows rows.now) measure row label }
     ensures bounded { nat_abs result ≤ VALUE_BOUND }
 {
     measure_value(rows, &checked.measures()[measure as usize], row, label)
@@ -31,7 +32,7 @@ pub fn value_of(checked: &Checked, rows: &Rows, measure: u32, row: u32, label: u
 fn measure_value(rows: &Rows, measure: &Measure, row: u32, label: u32) -> i128
     requires within { (labels : ℕ) × IsMeasureWithin rows.now.columns labels (plain_measure measure.now) }
     requires row_in_range { row < rows.now.count }
-    ensures value { result ≡ values.measure_value rows.now row label (plain_measure measure.now) }
+    ensures value { result ≡ values.measure_value (plain_rows rows.now) row label (plain_measure measure.now) }
     ensures bounded { nat_abs result ≤ VALUE_BOUND }
 {
     for case in &measure.cases {
@@ -45,7 +46,7 @@ fn measure_value(rows: &Rows, measure: &Measure, row: u32, label: u32) -> i128
 fn holds(rows: &Rows, cond: &[Atom], row: u32, label: u32) -> bool
     requires within { (labels : ℕ) × All (IsAtomWithin rows.now.columns labels) cond.now }
     requires row_in_range { row < rows.now.count }
-    ensures { result ≡ values.holds rows.now row label cond.now }
+    ensures { result ≡ values.holds (plain_rows rows.now) row label cond.now }
 {
     for atom in cond {
         if !atom_holds(rows, *atom, row, label) {
@@ -58,7 +59,7 @@ fn holds(rows: &Rows, cond: &[Atom], row: u32, label: u32) -> bool
 fn atom_holds(rows: &Rows, atom: Atom, row: u32, label: u32) -> bool
     requires within { (labels : ℕ) × IsAtomWithin rows.now.columns labels atom }
     requires row_in_range { row < rows.now.count }
-    ensures { result ≡ values.atom_holds rows.now row label atom }
+    ensures { result ≡ values.atom_holds (plain_rows rows.now) row label atom }
 {
     match atom {
         Atom::Label(wanted) => label == wanted,
@@ -85,7 +86,7 @@ fn form_value(rows: &Rows, form: &[Term], row: u32) -> i128
     requires few { length form.now ≤ TERM_LIMIT }
     requires within { All (IsTermWithin rows.now.columns) form.now }
     requires row_in_range { row < rows.now.count }
-    ensures value { result ≡ values.form_value rows.now row form.now }
+    ensures value { result ≡ values.form_value (plain_rows rows.now) row form.now }
     ensures bounded { nat_abs result ≤ VALUE_BOUND }
 {
     let mut sum = 0;
@@ -98,7 +99,7 @@ fn form_value(rows: &Rows, form: &[Term], row: u32) -> i128
 fn term_value(rows: &Rows, term: Term, row: u32) -> i128
     requires within { IsTermWithin rows.now.columns term }
     requires row_in_range { row < rows.now.count }
-    ensures value { result ≡ values.term_value rows.now row term }
+    ensures value { result ≡ values.term_value (plain_rows rows.now) row term }
     ensures bounded { nat_abs result ≤ TERM_BOUND }
 {
     match term.column {
@@ -110,7 +111,7 @@ fn term_value(rows: &Rows, term: Term, row: u32) -> i128
 fn cell(rows: &Rows, row: u32, column: u32) -> i128
     requires row_in_range { row < rows.now.count }
     requires column_in_range { column < rows.now.columns }
-    ensures value { result ≡ values.cell rows.now row column }
+    ensures value { result ≡ values.cell (plain_rows rows.now) row column }
     ensures bounded { nat_abs result ≤ NUMBER_BOUND }
 {
     rows.cell(row, column) as i128

@@ -6,7 +6,7 @@ use Rattle.monoid_kit.specs.Product.{product_by}
 use Rattle.shape_gen.specs.declared.mark.Mark.{Mark}
 use Rattle.gta_spec.specs.declared.parts.Check.{Check}
 use Rattle.gta_spec.specs.declared.parts.Check.TheVariants.{Compare, Mod}
-use Rattle.gta_checked.specs.declared.rows.Rows.{Rows}
+use Rattle.gta_checked.specs.PlainRows.{PlainRows}
 use Rattle.gta_checked.specs.Plain.{PlainTest, Sum, Length, Fold, PlainChecked}
 use Rattle.gta_meaning.specs.InRange.{IsInRange, label_count}
 use Rattle.gta_meaning.specs.Tests.{passes}
@@ -26,13 +26,13 @@ abbrev pub accepts : PlainTests → ℕ → Bool
 accepts tests key = slice_index_or tests.accept key false
 
 -- a candidate passes exactly where its key is accepted
-abbrev pub Decides : PlainChecked → Rows → PlainTests → Type 0
+abbrev pub Decides : PlainChecked → PlainRows → PlainTests → Type 0
 Decides checked rows tests =
     (c : List Mark) → IsInRange rows.count (label_count checked) c
     → accepts tests (key_of tests (label_count checked) c) ≡ passes checked rows c
 
 -- letters for all rows and labels, accepted keys, and what they decide
-pub record ArePrepared (checked : PlainChecked) (rows : Rows) (tests : PlainTests) : Type 0 where
+pub record ArePrepared (checked : PlainChecked) (rows : PlainRows) (tests : PlainTests) : Type 0 where
   pub count : length tests.letters ≡ rows.count * label_count checked
   pub keys : AllElements (λ key. key < tests.bound + 2) (λ key. key) tests.letters
   pub accept : length tests.accept ≡ tests.bound + 2

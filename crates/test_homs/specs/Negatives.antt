@@ -4,7 +4,7 @@ use Rattle.std.specs.List.{find, range_with_len}
 use Rattle.std.specs.Int.RustNames.{int_lt}
 use Rattle.gta_spec.specs.declared.parts.Check.{Check}
 use Rattle.gta_spec.specs.declared.parts.Check.TheVariants.{Compare, Mod}
-use Rattle.gta_checked.specs.declared.rows.Rows.{Rows}
+use Rattle.gta_checked.specs.PlainRows.{PlainRows}
 use Rattle.gta_checked.specs.Plain.{PlainTest, Sum, PlainChecked}
 use Rattle.gta_meaning.specs.InRange.{label_count}
 use Rattle.gta_meaning.specs.Values.{value}
@@ -26,12 +26,12 @@ first_some f (x ∷ xs) = or_else (f x) (first_some f xs)
     or_else (Some first) second = Some first
 
 -- the first label with which a row's value is negative
-abbrev pub negative_label : PlainChecked → Rows → ℕ → ℕ → Option ℕ
+abbrev pub negative_label : PlainChecked → PlainRows → ℕ → ℕ → Option ℕ
 negative_label checked rows measure row =
     find (λ label. int_lt (value checked rows measure row label) (pos 0)) (range_with_len 0 (label_count checked))
 
 -- the first row and label at which a measure is negative
-abbrev pub negative_value : PlainChecked → Rows → ℕ → ℕ → Option Negative
+abbrev pub negative_value : PlainChecked → PlainRows → ℕ → ℕ → Option Negative
 negative_value checked rows test measure =
     first_some (λ row. option_map (λ label. record {
       test = test;
@@ -40,16 +40,16 @@ negative_value checked rows test measure =
       value = value checked rows measure row label;
     }) (negative_label checked rows measure row)) (range_with_len 0 rows.count)
 
-abbrev pub negative_of_check : PlainChecked → Rows → ℕ → ℕ → Check → Option Negative
+abbrev pub negative_of_check : PlainChecked → PlainRows → ℕ → ℕ → Check → Option Negative
 negative_of_check checked rows test measure (Compare cmp number) = negative_value checked rows test measure
 negative_of_check checked rows test measure (Mod modulus residue) = None
 
-abbrev pub negative_of_test : PlainChecked → Rows → ℕ → PlainTest → Option Negative
+abbrev pub negative_of_test : PlainChecked → PlainRows → ℕ → PlainTest → Option Negative
 negative_of_test checked rows test (Sum measure check) = negative_of_check checked rows test measure check
 negative_of_test checked rows test _ = None
 
 -- the first negative value of the compared sums among the tests from this number on
-abbrev pub negative_from : PlainChecked → Rows → ℕ → List PlainTest → Option Negative
+abbrev pub negative_from : PlainChecked → PlainRows → ℕ → List PlainTest → Option Negative
 negative_from checked rows number [] = None
 negative_from checked rows number (test ∷ tests) = or_else (negative_of_test checked rows number test) (negative_from checked rows (number + 1) tests)
   where
@@ -58,5 +58,5 @@ negative_from checked rows number (test ∷ tests) = or_else (negative_of_test c
     or_else (Some first) second = Some first
 
 -- the first negative value of a compared sum
-abbrev pub first_negative : PlainChecked → Rows → Option Negative
+abbrev pub first_negative : PlainChecked → PlainRows → Option Negative
 first_negative checked rows = negative_from checked rows 0 checked.tests

@@ -1,6 +1,7 @@
 //! The tests of a job as letters for its rows and labels, and the keys that are accepted.
 
 ghost use Rattle.std.specs.Prelude.{◌≡◌, ◌≤◌, ◌<◌, ◌*◌, ◌+◌, length, Some, None, IfOk, IfErr, OnOk, slice_index_or};
+ghost use Rattle.gta_checked.specs.PlainRows.{plain_rows};
 ghost use Rattle.gta_meaning.specs.InRange.{HasColumnsOf, label_count};
 ghost use Rattle.test_homs.specs.Homs.{AreBuilt, ArePrepared};
 ghost use Rattle.test_homs.specs.Negatives.{first_negative};
@@ -68,12 +69,12 @@ impl Tests {
 /// Each value is looked at once. Refused at the first negative value of a compared sum, by test, row and label.
 pub fn prepare_tests(alloc: Global, checked: &Checked, rows: &Rows) -> Result<Tests, ValueFault>
     requires built { AreBuilt checked.now.tests }
-    requires columns { HasColumnsOf checked.now rows.now }
+    requires columns { HasColumnsOf checked.now (plain_rows rows.now) }
     requires few { rows.now.count ≤ ROW_LIMIT }
-    ensures accepted { OnOk result (first_negative checked.now rows.now ≡ None) }
-    ensures prepared { IfOk result (ArePrepared checked.now rows.now) }
+    ensures accepted { OnOk result (first_negative checked.now (plain_rows rows.now) ≡ None) }
+    ensures prepared { IfOk result (ArePrepared checked.now (plain_rows rows.now)) }
     ensures small { IfOk result (λ tests. tests.bound ≤ BOUND_LIMIT) }
-    ensures refused { IfErr result (IsEndOf (first_negative checked.now rows.now)) }
+    ensures refused { IfErr result (IsEndOf (first_negative checked.now (plain_rows rows.now))) }
 {
     let _ = alloc;
     let _ = checked;

@@ -5,6 +5,7 @@ use Rattle.std.specs.List.{list_all}
 use Rattle.gta_checked.specs.declared.resolved.Test.{Test}
 use Rattle.gta_checked.specs.Plain.{plain_test}
 use Rattle.gta_checked.specs.Within.{IsTestWithin}
+use Rattle.gta_checked.specs.PlainRows.{plain_rows}
 use Rattle.gta_meaning.specs.Tests as tests
 use Rattle.gta_meaning.proofs.Parts.{item-within}
 use Rattle.gta_meaning.proofs.passing.passes.Goals as goal
@@ -19,7 +20,7 @@ passes_test-requires-clause-within c =
 
 pub returns-then-not-passes_test : goal.returns-then-not-passes_test
 returns-then-not-passes_test c =
-    let holds = tests.passes_test c.args.checked.now c.args.rows.now c.args.candidate.now.marks.items in
+    let holds = tests.passes_test c.args.checked.now (plain_rows c.args.rows.now) c.args.candidate.now.marks.items in
     let same = ap (map plain_test) c.deref-test-items.ensures.value ∙ c.tests.ensures.tests in
     let fails : holds (plain_test c.test-item.result) ≡ false =
     sym c.passes_test.ensures ∙ c.if-not-passes_test.true in
@@ -29,7 +30,7 @@ returns-then-not-passes_test c =
 
 pub returns : goal.returns
 returns c =
-    let holds = tests.passes_test c.args.checked.now c.args.rows.now c.args.candidate.now.marks.items in
+    let holds = tests.passes_test c.args.checked.now (plain_rows c.args.rows.now) c.args.candidate.now.marks.items in
     let same = ap (map plain_test) c.deref-test-items.ensures.value ∙ c.tests.ensures.tests in
     sym (ap (list_all holds) (sym same) ∙ list_all-map holds plain_test c.deref-test-items.result.now
     ∙ ap (list_all (λ (test : Test). holds (plain_test test)))

@@ -3,6 +3,7 @@ use Rattle.std.proofs.lemmas.Int.{ints}
 use Rattle.std.specs.List.Sorted.{IsStrictlyIncreasing}
 use Rattle.shape_gen.specs.declared.mark.Mark.{Mark}
 use Rattle.shape_gen.specs.Candidates.{mark}
+use Rattle.gta_checked.specs.PlainRows.{plain_rows}
 use Rattle.gta_meaning.specs.Values.{value}
 use Rattle.gta_meaning.proofs.Ascending.{place-le-row}
 use Rattle.gta_meaning.proofs.Sums.{total-more}
@@ -23,7 +24,7 @@ loop-row-preserved c =
     (sym c.deref-row-items.ensures.value) c.requires.in_range.ascending in
     let place = place-le-row marks c.loop-row.row-index (mark 0 0) ascends c.loop-row-test.true in
     let here = get_or marks c.loop-row.row-index (mark 0 0) in
-    let checked = c.args.checked.now in let rows = c.args.rows.now in
+    let checked = c.args.checked.now in let rows = (plain_rows c.args.rows.now) in
     let term : c.value_of-sum.result ≡ value checked rows c.args.measure here.row here.label = cc in
     let more = total-more checked rows c.args.measure marks c.loop-row.row-index (mark 0 0) _ _
     c.loop-row-test.true c.loop-row.invariant.so_far term in

@@ -1,6 +1,7 @@
 use Rattle.std.proofs.Common.{◌≡◌, All, true, sym, ap, ◌∙◌, subst, arith}
 use Rattle.std.proofs.lemmas.Int.{ints}
 use Rattle.gta_checked.specs.Within.{IsAtomWithin, IsTermWithin}
+use Rattle.gta_checked.specs.PlainRows.{plain_rows}
 use Rattle.gta_meaning.specs.Values as values
 use Rattle.gta_meaning.proofs.Parts.{case-within}
 use Rattle.gta_meaning.proofs.Cases.{measure_value-first, measure_value-none}
@@ -29,16 +30,16 @@ form_value-requires-clause-within c =
 
 pub returns-then-holds-clause-value : goal.returns-then-holds-clause-value
 returns-then-holds-clause-value c =
-    let here : values.holds c.args.rows.now c.args.row c.args.label c.case-item.result.cond.items ≡ true =
+    let here : values.holds (plain_rows c.args.rows.now) c.args.row c.args.label c.case-item.result.cond.items ≡ true =
     rw c.deref.ensures.value at (sym c.holds.ensures ∙ c.if-holds.true) in
-    let first = measure_value-first c.args.rows.now c.args.row c.args.label c.args.measure.now _
+    let first = measure_value-first (plain_rows c.args.rows.now) c.args.row c.args.label c.args.measure.now _
     c.deref-case-items.ensures.value c.loop-case.case-index c.case-item.result
     c.loop-case-test.true c.case-item.is c.loop-case.invariant here in
-    let form = ap (values.form_value c.args.rows.now c.args.row) c.deref-then-holds.ensures.value in
+    let form = ap (values.form_value (plain_rows c.args.rows.now) c.args.row) c.deref-then-holds.ensures.value in
     omega (arith, ints, c.form_value.ensures.value ∙ form ∙ first)
 
 pub returns-clause-value : goal.returns-clause-value
 returns-clause-value c =
-    let none = measure_value-none c.args.rows.now c.args.row c.args.label c.args.measure.now _
+    let none = measure_value-none (plain_rows c.args.rows.now) c.args.row c.args.label c.args.measure.now _
     c.deref-case-items.ensures.value (λ k d less. c.loop-case.invariant k d (omega arith)) in
     omega (arith, ints, none)

@@ -1,6 +1,7 @@
 use Rattle.std.proofs.Common.{◌≡◌, ℕ, ◌<◌, false, get_or}
 use Rattle.gta_checked.specs.Plain.{plain_case}
 use Rattle.gta_checked.specs.declared.resolved.Case.{Case}
+use Rattle.gta_checked.specs.PlainRows.{plain_rows}
 use Rattle.gta_meaning.specs.Values as values
 use Rattle.gta_meaning.proofs.values.measure_value.Given as goal
 
@@ -8,4 +9,4 @@ use Rattle.gta_meaning.proofs.values.measure_value.Given as goal
 abbrev pub invariant-loop-case : goal.invariant-loop-case
 invariant-loop-case l =
     (k : ℕ) (d : Case) → k < l.case-index
-    → values.holds l.rows l.row l.label (plain_case (get_or l.case-items k d)).cond ≡ false
+    → values.holds (plain_rows l.rows) l.row l.label (plain_case (get_or l.case-items k d)).cond ≡ false
