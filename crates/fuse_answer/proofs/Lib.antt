@@ -1,0 +1,4 @@
+pub mod Light
+pub mod Places
+pub mod Plans
+pub mod Kept
