@@ -95,32 +95,35 @@ find-range_is_none p n none k below =
 test-from_negative : (v : ℤ) → v <ℤ pos 0 → int_lt v (pos 0) ≡ true
 test-from_negative v negative = grind (arith, ints)
 
-pub test-from_natural : (v : ℤ) → pos 0 ≤ℤ v → int_lt v (pos 0) ≡ false
+test-from_natural : (v : ℤ) → pos 0 ≤ℤ v → int_lt v (pos 0) ≡ false
 test-from_natural v natural = grind (arith, ints)
 
 natural-from_test : (v : ℤ) → int_lt v (pos 0) ≡ false → pos 0 ≤ℤ v
 natural-from_test v test = grind (arith, ints)
 
 module _ (checked : PlainChecked) (rows : Rows) (test measure : ℕ) where
-  -- the first negative value of a row
-  pub negative-first : (row label : ℕ) (v : ℤ) → label < label_count checked
-      → ((k : ℕ) → k < label → int_lt (value checked rows measure row k) (pos 0) ≡ false)
-      → v ≡ value checked rows measure row label → v <ℤ pos 0
-      → negative_at checked rows test measure row ≡ Some (record { test = test; row = row; label = label; value = v })
-  negative-first row label v below before is negative =
-      let at : ℕ → Negative = λ l. record { test = test; row = row; label = l; value = value checked rows measure row l } in
-      let here : int_lt (value checked rows measure row label) (pos 0) ≡ true =
-      ap (λ x. int_lt x (pos 0)) (sym is) ∙ test-from_negative v negative in
-      ap (option_map at)
-      (find-range-first (λ l. int_lt (value checked rows measure row l) (pos 0)) (label_count checked) label below before here)
-      ∙ ap (λ (x : ℤ). Some (record { test = test; row = row; label = label; value = x })) (sym is)
+  abbrev is_negative : ℕ → ℕ → Bool
+  is_negative row label = int_lt (value checked rows measure row label) (pos 0)
 
-  pub negative-nowhere : (row : ℕ)
-      → ((k : ℕ) → k < label_count checked → int_lt (value checked rows measure row k) (pos 0) ≡ false)
-      → negative_at checked rows test measure row ≡ None
-  negative-nowhere row nowhere =
+  -- the first negative value of a row
+  pub negative-first : (row label : ℕ) → label < label_count checked
+      → ((k : ℕ) → k < label → pos 0 ≤ℤ value checked rows measure row k) → value checked rows measure row label <ℤ pos 0
+      → negative_at checked rows test measure row
+      ≡ Some (record { test = test; row = row; label = label; value = value checked rows measure row label })
+  negative-first row label below before negative =
       let at : ℕ → Negative = λ l. record { test = test; row = row; label = l; value = value checked rows measure row l } in
-      ap (option_map at) (find-range-none (λ l. int_lt (value checked rows measure row l) (pos 0)) (label_count checked) nowhere)
+      ap (option_map at)
+      (find-range-first (is_negative row) (label_count checked) label below
+      (λ k less. test-from_natural (value checked rows measure row k) (before k less))
+      (test-from_negative (value checked rows measure row label) negative))
+
+  pub negative-nowhere : (row : ℕ) → ((k : ℕ) → k < label_count checked → pos 0 ≤ℤ value checked rows measure row k)
+      → negative_at checked rows test measure row ≡ None
+  negative-nowhere row natural =
+      let at : ℕ → Negative = λ l. record { test = test; row = row; label = l; value = value checked rows measure row l } in
+      ap (option_map at)
+      (find-range-none (is_negative row) (label_count checked)
+      (λ k less. test-from_natural (value checked rows measure row k) (natural k less)))
 
   -- the end of a row, after rows that have no negative value, is that of all rows
   pub row-end : (row : ℕ) (fault : ValueFault) → row < rows.count
@@ -137,4 +140,4 @@ module _ (checked : PlainChecked) (rows : Rows) (test measure : ℕ) where
       let at_row : negative_at checked rows test measure row ≡ None = first_some-range_none (negative_at checked rows test measure) rows.count none row row_in in
       let no_label : negative_label checked rows measure row ≡ None = option_map-is_none (λ label. record { test = test; row = row; label = label; value = value checked rows measure row label }) (negative_label checked rows measure row) at_row in
       natural-from_test (value checked rows measure row label)
-      (find-range_is_none (λ label. int_lt (value checked rows measure row label) (pos 0)) (label_count checked) no_label label label_in)
+      (find-range_is_none (is_negative row) (label_count checked) no_label label label_in)

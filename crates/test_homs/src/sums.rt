@@ -1,10 +1,11 @@
 //! One compared sum: its values as letters that stop one past the bound, and the keys that it accepts.
 //! specs/Sums.antt has letters and keys.
 
-ghost use Rattle.std.specs.Prelude.{◌≡◌, ◌≤◌, ◌<◌, ◌+◌, ◌*◌, ◌++◌, ◌≤ℤ◌, pos, length, None};
-ghost use Rattle.std.specs.Prelude.{IfSome, IfOk, IfErr, OnOk};
+ghost use Rattle.std.specs.Prelude.{◌≡◌, ◌≤◌, ◌<◌, ◌+◌, ◌*◌, ◌++◌, ◌≤ℤ◌, ◌<ℤ◌, pos, length, None};
+ghost use Rattle.std.specs.Prelude.{IfSome, IfOk, IfErr, OnOk, OnErr};
 ghost use Rattle.gta_meaning.specs.InRange as in_range;
-ghost use Rattle.gta_meaning.specs.Values.{compares};
+ghost use Rattle.gta_meaning.specs.Values.{compares, value};
+ghost use Rattle.test_homs.specs.declared.tests_of.ValueFault.TheVariants.{Negative};
 ghost use Rattle.test_homs.specs.Ends.{IsEndOf};
 ghost use Rattle.test_homs.specs.Homs.{AreBuilt};
 ghost use Rattle.test_homs.specs.Negatives.{negative_at, negative_value};
@@ -96,26 +97,43 @@ fn push_row(
     ensures refused { IfErr result (IsEndOf (negative_at checked.now rows.now 0 measure row)) }
 {
     for label in 0..label_count(checked) {
-        let value = value_of(checked, rows, measure, row, label);
-        if value < 0 {
-            return Err(ValueFault::Negative {
-                test: 0,
-                row,
-                label,
-                value,
-            });
-        }
-        letters.push(letter_of(bound, value))?;
+        let letter = letter_at(checked, rows, measure, bound, row, label)?;
+        letters.push(letter)?;
     }
     Ok(())
 }
 
-fn letter_of(bound: u32, value: i128) -> u32
-    requires natural { pos 0 ≤ℤ value }
+/// The letter of a row with a label: the value there, or one past the bound where the value is past it.
+/// Refused where the value is negative.
+fn letter_at(
+    checked: &Checked,
+    rows: &Rows,
+    measure: u32,
+    bound: u32,
+    row: u32,
+    label: u32,
+) -> Result<u32, ValueFault>
+    requires columns { in_range.HasColumnsOf checked.now rows.now }
+    requires row_in_range { row < rows.now.count }
+    requires measure_in_range { measure < length checked.now.measures }
     requires small { bound ≤ BOUND_LIMIT }
-    ensures { result ≡ sums.letter_of bound value }
+    ensures natural { OnOk result (pos 0 ≤ℤ value checked.now rows.now measure row label) }
+    ensures letter { IfOk result (λ letter.
+        letter ≡ sums.letter_of bound (value checked.now rows.now measure row label)) }
+    ensures negative { OnErr result (value checked.now rows.now measure row label <ℤ pos 0) }
+    ensures refused { IfErr result (λ fault.
+        fault ≡ Negative 0 row label (value checked.now rows.now measure row label)) }
 {
-    value.min(bound as i128 + 1) as u32
+    let value = value_of(checked, rows, measure, row, label);
+    if value < 0 {
+        return Err(ValueFault::Negative {
+            test: 0,
+            row,
+            label,
+            value,
+        });
+    }
+    Ok(value.min(bound as i128 + 1) as u32)
 }
 
 /// Which keys are accepted: those that compare with the bound as the total must.

@@ -1,6 +1,5 @@
-use Rattle.std.proofs.Common.{◌≡◌, ◌++◌, ◌<◌, ℕ, pos, false, map}
+use Rattle.std.proofs.Common.{◌≡◌, ◌++◌, ◌<◌, ℕ, pos, ◌≤ℤ◌, map}
 use Rattle.std.specs.List.{range_with_len}
-use Rattle.std.specs.Int.RustNames.{int_lt}
 use Rattle.gta_meaning.specs.Values.{value}
 use Rattle.test_homs.specs.Sums.{letter_of}
 use Rattle.test_homs.proofs.sums.push_row.Given as goal
@@ -10,5 +9,5 @@ abbrev pub invariant-loop-label : goal.invariant-loop-label
 invariant-loop-label l = record {
   added : l.letters.items ≡ l.fn.letters.items
       ++ map (λ label. letter_of l.bound (value l.checked l.rows l.measure l.row label)) (range_with_len 0 l.label);
-  natural : (k : ℕ) → k < l.label → int_lt (value l.checked l.rows l.measure l.row k) (pos 0) ≡ false;
+  natural : (k : ℕ) → k < l.label → pos 0 ≤ℤ value l.checked l.rows l.measure l.row k;
 }
