@@ -8,3 +8,6 @@ mod sums;
 mod tests_of;
 
 pub use tests_of::{Tests, ValueFault, prepare_tests};
+
+#[cfg(test)]
+mod tests;
