@@ -1,5 +1,5 @@
 -- The end of preparing tests.
-use Rattle.std.specs.Prelude.{ℕ, ◌≡◌, Option, Some}
+use Rattle.std.specs.Prelude.{◌≡◌, Option, Some}
 use Rattle.test_homs.specs.declared.tests_of.ValueFault.{ValueFault}
 use Rattle.test_homs.specs.declared.tests_of.ValueFault.TheVariants as faults
 use Rattle.test_homs.specs.Negatives.{Negative}

@@ -1,3 +1,4 @@
 pub mod Homs
 pub mod Negatives
 pub mod Ends
+pub mod Sums
