@@ -13,3 +13,6 @@ mod table;
 
 pub use fault::RowsFault;
 pub use table::read_rows;
+
+#[cfg(test)]
+mod tests;
