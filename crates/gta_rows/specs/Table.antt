@@ -1,0 +1,118 @@
+-- The rows of a table: its records, the places of the declared columns, their cells, and the first
+-- fault in the order of the refusals.
+use Rattle.std.specs.Prelude.{◌≡◌, ℕ, ◌+◌, ℤ, not, List, [], ◌∷◌, length, drop, map, ◌==◌, nat_lt, if◌then◌else◌, slice_get, slice_index_or, Option, Some, None, option_map, unwrap_or}
+use Rattle.std.specs.List.{count_by, enumerate_from, filter_map, find, flat_map, position, position_or_len}
+use Rattle.std.specs.Option.{option_or}
+use Rattle.std.specs.Str.{bytes_eq}
+use Rattle.csv.specs.Reading.{default_config, records, strip_bom}
+use Rattle.gta_text.specs.Text.{mark_length}
+use Rattle.gta_spec.specs.declared.limits.TheConstants.{ROW_LIMIT}
+use Rattle.gta_spec.specs.declared.parts.ColumnItem.{ColumnItem}
+use Rattle.gta_checked.specs.declared.rows.Rows.{Rows}
+use Rattle.gta_rows.specs.Fields.{trimmed_record, cell_at, has_no_cell}
+use Rattle.gta_rows.specs.declared.fault.RowsFault.{RowsFault}
+use Rattle.gta_rows.specs.declared.fault.RowsFault.TheVariants.{NoHeader, Missing, ColumnTwice, Length, Field, TooMany, Memory}
+
+-- the records that csv reads behind one mark EF BB BF, trimmed; csv itself passes over one mark more
+unfoldable pub table_records : List ℕ → List (List (List ℕ))
+table_records bytes =
+    map trimmed_record (records default_config (strip_bom (drop (mark_length bytes) bytes)))
+
+-- the text that a column has in the header
+abbrev pub header_text : ColumnItem → List ℕ
+header_text item = unwrap_or item.header item.name
+
+-- how many fields of the header are the text, and the number of the first
+abbrev pub times_in : List (List ℕ) → List ℕ → ℕ
+times_in header text = count_by (λ field. bytes_eq field text) header
+
+abbrev pub place_in : List (List ℕ) → List ℕ → ℕ
+place_in header text = position_or_len (λ field. bytes_eq field text) header
+
+-- where the cells of the columns stand in each record
+abbrev pub places : List (List ℕ) → List ColumnItem → List ℕ
+places header items = map (λ item. place_in header (header_text item)) items
+
+-- a declared column that the header lacks, and one that it has more than once; the first declared
+unfoldable pub missing : List (List ℕ) → List ColumnItem → Option RowsFault
+missing header items =
+    option_map (λ item. Missing item.name)
+    (find (λ item. times_in header (header_text item) == 0) items)
+
+unfoldable pub twice : List (List ℕ) → List ColumnItem → Option RowsFault
+twice header items =
+    option_map (λ item. ColumnTwice item.name)
+    (find (λ item. nat_lt 1 (times_in header (header_text item))) items)
+
+-- the first record with another number of fields than the header
+unfoldable pub wrong_length : ℕ → List (List (List ℕ)) → Option RowsFault
+wrong_length width records =
+    option_map (λ at. Length at.0 (length at.1) width)
+    (find (λ at. not (length at.1 == width)) (enumerate_from 0 records))
+
+-- the record's number and that of its first column without a cell
+abbrev pub bad_cell : List ℕ → ℕ × List (List ℕ) → Option (ℕ × ℕ)
+bad_cell columns at =
+    option_map (λ column. (at.0, column))
+    (position (has_no_cell at.1) columns)
+
+-- the first of these over all records
+unfoldable pub first_bad_cell : List ℕ → List (List (List ℕ)) → Option (ℕ × ℕ)
+first_bad_cell columns records =
+    slice_get (filter_map (bad_cell columns) (enumerate_from 0 records)) 0
+
+abbrev pub column_name : List ColumnItem → ℕ → List ℕ
+column_name items column = slice_index_or (map (λ item. item.name) items) column []
+
+abbrev pub no_cell : List ColumnItem → Option (ℕ × ℕ) → Option RowsFault
+no_cell items bad = option_map (λ at. Field at.0 (column_name items at.1)) bad
+
+abbrev pub too_many : ℕ → Option RowsFault
+too_many count = if nat_lt ROW_LIMIT count then Some TooMany else None
+
+-- the first fault of the records behind the header
+unfoldable pub fault_behind : List (List ℕ) → List ColumnItem → List (List (List ℕ)) → Option RowsFault
+fault_behind header items records =
+    option_or (wrong_length (length header) records)
+    (option_or (no_cell items (first_bad_cell (places header items) records)) (too_many (length records)))
+
+unfoldable pub fault_in : List ColumnItem → List (List (List ℕ)) → Option RowsFault
+fault_in items [] = Some NoHeader
+fault_in items (header ∷ records) =
+    option_or (missing header items)
+    (option_or (twice header items) (fault_behind header items records))
+
+-- the first fault of a table, or none
+abbrev pub table_fault : List ColumnItem → List ℕ → Option RowsFault
+table_fault items bytes = fault_in items (table_records bytes)
+
+-- the cells of the columns, record by record
+unfoldable pub cells_of : List ℕ → List (List (List ℕ)) → List ℤ
+cells_of columns records = flat_map (λ fields. filter_map (cell_at fields) columns) records
+
+unfoldable pub cells_in : List ColumnItem → List (List (List ℕ)) → List ℤ
+cells_in items [] = []
+cells_in items (header ∷ records) = cells_of (places header items) records
+
+abbrev pub table_cells : List ColumnItem → List ℕ → List ℤ
+table_cells items bytes = cells_in items (table_records bytes)
+
+-- the rows are those of the table: all records behind the header, with the cells of the columns
+pub record IsTableOf (items : List ColumnItem) (bytes : List ℕ) (rows : Rows) : Type 0 where
+  pub count : rows.count + 1 ≡ length (table_records bytes)
+  pub columns : rows.columns ≡ length items
+  pub cells : rows.cells.items ≡ table_cells items bytes
+
+-- a refusal that names this fault; want of memory is free
+abbrev pub IsRefusal : Option RowsFault → RowsFault → Type 0
+IsRefusal fault Memory = Unit {0}
+IsRefusal fault NoHeader = fault ≡ Some NoHeader
+IsRefusal fault (Missing column) = fault ≡ Some (Missing column)
+IsRefusal fault (ColumnTwice column) = fault ≡ Some (ColumnTwice column)
+IsRefusal fault (Length row fields header) = fault ≡ Some (Length row fields header)
+IsRefusal fault (Field row column) = fault ≡ Some (Field row column)
+IsRefusal fault TooMany = fault ≡ Some TooMany
+
+-- a refusal names the first fault of the table
+abbrev pub IsFaultOf : List ColumnItem → List ℕ → RowsFault → Type 0
+IsFaultOf items bytes = IsRefusal (table_fault items bytes)
