@@ -1,4 +1,0 @@
-pub mod Light
-pub mod Places
-pub mod Plans
-pub mod Kept
