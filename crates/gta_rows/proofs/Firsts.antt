@@ -1,5 +1,7 @@
 -- The first of the numbered items of a list, as the list grows at its end.
-use Rattle.std.proofs.Common.{◌≡◌, ℕ, zero, suc, ◌+◌, ◌<◌, Bool, true, false, if◌then◌else◌, List, [], ◌∷◌, ◌++◌, length, take, get_or, Option, Some, None, option_map, add-one, refl, ap, ◌∙◌, arith}
+use Rattle.std.proofs.Common.{◌≡◌, ℕ, zero, suc, ◌+◌, ◌<◌, Bool, true, false, if◌then◌else◌, List}
+use Rattle.std.proofs.Common.{[], ◌∷◌, ◌++◌, length, take, get_or, Option, Some, None, option_map}
+use Rattle.std.proofs.Common.{add-one, refl, ap, ◌∙◌, arith}
 use Rattle.std.specs.List.{find, filter_map, cons_option, enumerate_from, slice_get}
 use Rattle.std.specs.Option.{option_or}
 
@@ -20,13 +22,15 @@ head_append {A} {B} f n [] x = by (f (n, x)) ∙ ap (λ (k : ℕ). f (k, x)) sam
     by (Some b) = refl
 head_append {A} {B} f n (y ∷ ys) x = by (f (n, y))
     (head_append f (n + 1) ys x
-    ∙ ap (λ (k : ℕ). option_or (slice_get (filter_map f (enumerate_from (n + 1) ys)) 0) (f (k, x))) (shifted n (length ys)))
+    ∙ ap (λ (k : ℕ). option_or (slice_get (filter_map f (enumerate_from (n + 1) ys)) 0) (f (k, x)))
+    (shifted n (length ys)))
   where
     by : (o : Option B)
         → slice_get (filter_map f (enumerate_from (n + 1) (ys ++ x ∷ []))) 0
         ≡ option_or (slice_get (filter_map f (enumerate_from (n + 1) ys)) 0) (f (n + suc (length ys), x))
         → slice_get (cons_option o (filter_map f (enumerate_from (n + 1) (ys ++ x ∷ [])))) 0
-        ≡ option_or (slice_get (cons_option o (filter_map f (enumerate_from (n + 1) ys))) 0) (f (n + suc (length ys), x))
+        ≡ option_or (slice_get (cons_option o (filter_map f (enumerate_from (n + 1) ys))) 0)
+        (f (n + suc (length ys), x))
     by None e = e
     by (Some b) e = refl
 
@@ -71,13 +75,16 @@ at_here {A} {F} test f n (y ∷ ys) x zs so_far hit = by (test (n, y)) so_far
     ∙ ap (λ (k : ℕ). Some (f (k, x))) (shifted n (length ys)))
   where
     by : (b : Bool) → option_map f (if b then Some (n, y) else find test (enumerate_from (n + 1) ys)) ≡ None
-        → (first_at test f (n + 1) ys ≡ None → first_at test f (n + 1) (ys ++ x ∷ zs) ≡ Some (f (n + suc (length ys), x)))
-        → option_map f (if b then Some (n, y) else find test (enumerate_from (n + 1) (ys ++ x ∷ zs))) ≡ Some (f (n + suc (length ys), x))
+        → (first_at test f (n + 1) ys ≡ None
+        → first_at test f (n + 1) (ys ++ x ∷ zs) ≡ Some (f (n + suc (length ys), x)))
+        → option_map f (if b then Some (n, y) else find test (enumerate_from (n + 1) (ys ++ x ∷ zs))) ≡ Some
+        (f (n + suc (length ys), x))
     by true e more = cc e
     by false e more = more e
 
 -- one item more, for which f makes something
-made_more : {A B : Type 0} (f : A → Option B) (xs : List A) (i : ℕ) (d : A) (b : B) → i < length xs → f (get_or xs i d) ≡ Some b
+made_more : {A B : Type 0} (f : A → Option B) (xs : List A) (i : ℕ) (d : A) (b : B) → i < length xs
+    → f (get_or xs i d) ≡ Some b
     → filter_map f (take (suc i) xs) ≡ filter_map f (take i xs) ++ b ∷ []
 made_more f [] i d b lt made = absurd (omega arith)
 made_more f (x ∷ xs) zero d b lt made = rw made refl
@@ -88,6 +95,7 @@ made_more {A} {B} f (x ∷ xs) (suc i) d b lt made = by (f x) (made_more f xs i 
     by None e = e
     by (Some y) e = ap (λ (ys : List B). y ∷ ys) e
 
-pub one_made : {A B : Type 0} (f : A → Option B) (xs : List A) (i : ℕ) (d : A) (b : B) → i < length xs → f (get_or xs i d) ≡ Some b
+pub one_made : {A B : Type 0} (f : A → Option B) (xs : List A) (i : ℕ) (d : A) (b : B) → i < length xs
+    → f (get_or xs i d) ≡ Some b
     → filter_map f (take (i + 1) xs) ≡ filter_map f (take i xs) ++ b ∷ []
 one_made f xs i d b lt made = rw (add-one i) (made_more f xs i d b lt made)

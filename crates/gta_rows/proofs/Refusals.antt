@@ -1,6 +1,9 @@
 -- The first fault in the order of the refusals, put together from its parts.
-use Rattle.std.proofs.Common.{◌≡◌, ℕ, ◌+◌, ◌<◌, ◌≤◌, Bool, true, false, nat_lt, if◌then◌else◌, List, [], ◌∷◌, length, Option, Some, None, option_map, refl, sym, ap, subst, ◌∙◌, arith}
-use Rattle.std.specs.List.{cons_option, enumerate_from, filter_map, position, position_or_len, slice_get}
+use Rattle.std.proofs.Common.{◌≡◌, ℕ, ◌+◌, ◌<◌, ◌≤◌, Bool, true, false, nat_lt, if◌then◌else◌, List}
+use Rattle.std.proofs.Common.{[], ◌∷◌, length, Option, Some, None, option_map, refl, sym, ap, subst}
+use Rattle.std.proofs.Common.{◌∙◌, arith}
+use Rattle.std.specs.List.{cons_option, enumerate_from, filter_map, position, position_or_len}
+use Rattle.std.specs.List.{slice_get}
 use Rattle.std.specs.Option.{option_or}
 use Rattle.std.specs.Prelude.{IfSome}
 use Rattle.std.proofs.lemmas.Bool.Decides.{nat_tests}
@@ -8,11 +11,14 @@ use Rattle.std.proofs.lemmas.Option.{same_Some}
 use Rattle.gta_spec.specs.declared.limits.TheConstants.{ROW_LIMIT}
 use Rattle.gta_spec.specs.declared.parts.ColumnItem.{ColumnItem}
 use Rattle.gta_rows.specs.declared.fault.RowsFault.{RowsFault}
-use Rattle.gta_rows.specs.declared.fault.RowsFault.TheVariants.{NoHeader, Missing, ColumnTwice, Length, Field, TooMany, Memory}
-use Rattle.gta_rows.specs.Fields.{has_no_cell}
-use Rattle.gta_rows.specs.Table.{bad_cell, first_bad_cell, fault_behind, fault_in, missing, no_cell, places, too_many, twice, wrong_length, IsRefusal}
+use Rattle.gta_rows.specs.declared.fault.RowsFault.TheVariants.{NoHeader, Missing, ColumnTwice}
+use Rattle.gta_rows.specs.declared.fault.RowsFault.TheVariants.{Length, Field, TooMany, Memory}
+use Rattle.gta_rows.specs.Fields.{Record, has_no_cell}
+use Rattle.gta_rows.specs.Table.{bad_cell, first_bad_cell, fault_behind, fault_in, missing, no_cell}
+use Rattle.gta_rows.specs.Table.{places, too_many, twice, wrong_length, IsRefusal}
 
-pub moved : (o p : Option RowsFault) (fault : RowsFault) → ((e : RowsFault) → o ≡ Some e → p ≡ Some e) → IsRefusal o fault → IsRefusal p fault
+pub moved : (o p : Option RowsFault) (fault : RowsFault) → ((e : RowsFault) → o ≡ Some e → p ≡ Some e)
+    → IsRefusal o fault → IsRefusal p fault
 moved o p Memory go is = tt
 moved o p NoHeader go is = go _ is
 moved o p (Missing column) go is = go _ is
@@ -22,8 +28,9 @@ moved o p (Field row column) go is = go _ is
 moved o p TooMany go is = go _ is
 
 -- a refusal of the header
-pub under_header : (items : List ColumnItem) (header : List (List ℕ)) (records : List (List (List ℕ))) (fault : RowsFault)
-    → IsRefusal (option_or (missing header items) (twice header items)) fault → IsRefusal (fault_in items (header ∷ records)) fault
+pub under_header : (items : List ColumnItem) (header : Record) (records : List Record) (fault : RowsFault)
+    → IsRefusal (option_or (missing header items) (twice header items)) fault
+    → IsRefusal (fault_in items (header ∷ records)) fault
 unfolding fault_in
 under_header items header records fault = moved _ _ fault (λ e is. by (missing header items) (twice header items) is)
   where
@@ -34,30 +41,34 @@ under_header items header records fault = moved _ _ fault (λ e is. by (missing 
     by None None is = cc is
 
 -- a refusal of the records
-whole_fault : (items : List ColumnItem) (header : List (List ℕ)) (records : List (List (List ℕ)))
+whole_fault : (items : List ColumnItem) (header : Record) (records : List Record)
     → missing header items ≡ None → twice header items ≡ None
     → fault_in items (header ∷ records) ≡ fault_behind header items records
 unfolding fault_in
 whole_fault items header records none_missing none_twice = rw (none_missing, none_twice) refl
 
-pub under_lengths : (items : List ColumnItem) (header : List (List ℕ)) (records : List (List (List ℕ))) (width : ℕ) (fault : RowsFault)
+pub under_lengths : (items : List ColumnItem) (header : Record) (records : List Record) (width : ℕ)
+    (fault : RowsFault)
     → missing header items ≡ None → twice header items ≡ None → width ≡ length header
     → IsRefusal (wrong_length width records) fault → IsRefusal (fault_in items (header ∷ records)) fault
 unfolding fault_behind
 under_lengths items header records width fault none_missing none_twice wide =
     moved _ _ fault (λ e is. whole_fault items header records none_missing none_twice
-    ∙ ap (λ (o : Option RowsFault). option_or o (option_or (no_cell items (first_bad_cell (places header items) records)) (too_many (length records))))
+    ∙ ap (λ (o : Option RowsFault). option_or o
+    (option_or (no_cell items (first_bad_cell (places header items) records)) (too_many (length records))))
     (ap (λ (n : ℕ). wrong_length n records) (sym wide) ∙ is))
 
 -- with all lengths right, the fault is that of the cells or the number of rows
-pub cells_fault : (items : List ColumnItem) (header : List (List ℕ)) (records : List (List (List ℕ))) (width : ℕ) (bad : Option (ℕ × ℕ)) (count : ℕ)
+pub cells_fault : (items : List ColumnItem) (header : Record) (records : List Record) (width : ℕ)
+    (bad : Option (ℕ × ℕ)) (count : ℕ)
     → missing header items ≡ None → twice header items ≡ None → width ≡ length header
     → wrong_length width records ≡ None → bad ≡ first_bad_cell (places header items) records → count ≡ length records
     → fault_in items (header ∷ records) ≡ option_or (no_cell items bad) (too_many count)
 unfolding fault_behind
 cells_fault items header records width bad count none_missing none_twice wide lengths is_bad is_count =
     whole_fault items header records none_missing none_twice
-    ∙ ap (λ (o : Option RowsFault). option_or o (option_or (no_cell items (first_bad_cell (places header items) records)) (too_many (length records))))
+    ∙ ap (λ (o : Option RowsFault). option_or o
+    (option_or (no_cell items (first_bad_cell (places header items) records)) (too_many (length records))))
     (ap (λ (n : ℕ). wrong_length n records) (sym wide) ∙ lengths)
     ∙ ap (λ (o : Option (ℕ × ℕ)). option_or (no_cell items o) (too_many (length records))) (sym is_bad)
     ∙ ap (λ (n : ℕ). option_or (no_cell items bad) (too_many n)) (sym is_count)
@@ -80,24 +91,30 @@ many_rows count many = by (nat_lt ROW_LIMIT count) (grind (arith, nat_tests))
 position_within : (test : ℕ → Bool) (xs : List ℕ) (i : ℕ) → position test xs ≡ Some i → i < length xs
 position_within test xs i e = by (nat_lt (position_or_len test xs) (length xs)) refl e
   where
-    by : (b : Bool) → nat_lt (position_or_len test xs) (length xs) ≡ b → (if b then Some (position_or_len test xs) else None) ≡ Some i → i < length xs
+    by : (b : Bool) → nat_lt (position_or_len test xs) (length xs) ≡ b
+        → (if b then Some (position_or_len test xs) else None) ≡ Some i → i < length xs
     by true lt h = subst (λ (k : ℕ). k < length xs) (same_Some _ i h) (grind (arith, nat_tests))
     by false lt h = cc h
 
-from_place : (columns : List ℕ) (n : ℕ) (records : List (List (List ℕ))) (at : ℕ × ℕ)
+from_place : (columns : List ℕ) (n : ℕ) (records : List Record) (at : ℕ × ℕ)
     → slice_get (filter_map (bad_cell columns) (enumerate_from n records)) 0 ≡ Some at → at.1 < length columns
 from_place columns n [] at e = cc e
-from_place columns n (fields ∷ records) at e = by (position (has_no_cell fields) columns) refl e (from_place columns (n + 1) records at)
+from_place columns n (fields ∷ records) at e = by (position (has_no_cell fields) columns) refl e
+    (from_place columns (n + 1) records at)
   where
     by : (o : Option ℕ) → position (has_no_cell fields) columns ≡ o
-        → slice_get (cons_option (option_map (λ (k : ℕ). (n, k)) o) (filter_map (bad_cell columns) (enumerate_from (n + 1) records))) 0 ≡ Some at
-        → (slice_get (filter_map (bad_cell columns) (enumerate_from (n + 1) records)) 0 ≡ Some at → at.1 < length columns)
+        → slice_get (cons_option (option_map (λ (k : ℕ). (n, k)) o)
+        (filter_map (bad_cell columns) (enumerate_from (n + 1) records))) 0 ≡ Some at
+        → (slice_get (filter_map (bad_cell columns) (enumerate_from (n + 1) records)) 0 ≡ Some at
+        → at.1 < length columns)
         → at.1 < length columns
     by None is h later = later h
-    by (Some k) is h later = subst (λ (p : ℕ × ℕ). p.1 < length columns) (same_Some _ at h) (position_within (has_no_cell fields) columns k is)
+    by (Some k) is h later = subst (λ (p : ℕ × ℕ). p.1 < length columns) (same_Some _ at h)
+        (position_within (has_no_cell fields) columns k is)
 
-pub bad_within : (columns : List ℕ) (records : List (List (List ℕ))) (bad : Option (ℕ × ℕ)) (size : ℕ)
+pub bad_within : (columns : List ℕ) (records : List Record) (bad : Option (ℕ × ℕ)) (size : ℕ)
     → bad ≡ first_bad_cell columns records → length columns ≡ size → IfSome bad (λ at. at.1 < size)
 unfolding first_bad_cell
 bad_within columns records None size is same = tt
-bad_within columns records (Some at) size is same = subst (λ (n : ℕ). at.1 < n) same (from_place columns 0 records at (sym is))
+bad_within columns records (Some at) size is same = subst (λ (n : ℕ). at.1 < n) same
+    (from_place columns 0 records at (sym is))

@@ -2,23 +2,24 @@
 use Rattle.std.specs.Prelude.{◌≡◌, ℕ, ◌+◌, ◌≤◌, false, List, [], length, map, Option, Some, None}
 use Rattle.std.specs.Borrow.{Bor}
 use Rattle.csv.specs.Machine.{ends_at_end}
-use Rattle.csv.specs.Reading.{Ready, default_config, reader_config, reader_state, reader_trim, records_from, source_of}
+use Rattle.csv.specs.Reading.{Ready, default_config, reader_config, reader_state, reader_trim}
+use Rattle.csv.specs.Reading.{records_from, source_of}
 use Rattle.csv.specs.declared.parser.State.{State}
 use Rattle.csv.specs.declared.reader.Reader.{Reader}
 use Rattle.csv.specs.declared.reader.Trim.TheVariants as trims
 use Rattle.gta_text.specs.declared.lines.TheConstants.{INPUT_BOUND}
-use Rattle.gta_rows.specs.Fields.{trimmed_record}
+use Rattle.gta_rows.specs.Fields.{Record, trimmed_record}
 
 abbrev pub bytes_left : Reader (Bor (List ℕ)) → Option (List ℕ)
 bytes_left reader = source_of (λ bytes. Some bytes.now) reader
 
 -- the records that csv reads from here on, trimmed
-unfoldable pub records_after : State → Option (List ℕ) → List (List (List ℕ))
+unfoldable pub records_after : State → Option (List ℕ) → List Record
 records_after state None = []
 records_after state (Some bytes) =
     map trimmed_record (records_from default_config (length bytes + 1) state bytes)
 
-abbrev pub records_left : Reader (Bor (List ℕ)) → List (List (List ℕ))
+abbrev pub records_left : Reader (Bor (List ℕ)) → List Record
 records_left reader = records_after (reader_state reader) (bytes_left reader)
 
 -- the reader stands between two records, and reads them as they are

@@ -1,7 +1,10 @@
 -- The rows of a table: its records, the places of the declared columns, their cells, and the first
 -- fault in the order of the refusals.
-use Rattle.std.specs.Prelude.{◌≡◌, ℕ, ◌+◌, ℤ, not, List, [], ◌∷◌, length, drop, map, ◌==◌, nat_lt, if◌then◌else◌, slice_get, slice_index_or, Option, Some, None, option_map, unwrap_or}
-use Rattle.std.specs.List.{count_by, enumerate_from, filter_map, find, flat_map, position, position_or_len}
+use Rattle.std.specs.Prelude.{◌≡◌, ℕ, ◌+◌, ℤ, not, List, [], ◌∷◌, length, drop, map, ◌==◌, nat_lt}
+use Rattle.std.specs.Prelude.{if◌then◌else◌, slice_get, slice_index_or, Option, Some, None}
+use Rattle.std.specs.Prelude.{option_map, unwrap_or}
+use Rattle.std.specs.List.{count_by, enumerate_from, filter_map, find, flat_map, position}
+use Rattle.std.specs.List.{position_or_len}
 use Rattle.std.specs.Option.{option_or}
 use Rattle.std.specs.Str.{bytes_eq}
 use Rattle.csv.specs.Reading.{default_config, records, strip_bom}
@@ -9,12 +12,13 @@ use Rattle.gta_text.specs.Text.{mark_length}
 use Rattle.gta_spec.specs.declared.limits.TheConstants.{ROW_LIMIT}
 use Rattle.gta_spec.specs.declared.parts.ColumnItem.{ColumnItem}
 use Rattle.gta_checked.specs.declared.rows.Rows.{Rows}
-use Rattle.gta_rows.specs.Fields.{trimmed_record, cell_at, has_no_cell}
+use Rattle.gta_rows.specs.Fields.{Record, trimmed_record, cell_at, has_no_cell}
 use Rattle.gta_rows.specs.declared.fault.RowsFault.{RowsFault}
-use Rattle.gta_rows.specs.declared.fault.RowsFault.TheVariants.{NoHeader, Missing, ColumnTwice, Length, Field, TooMany, Memory}
+use Rattle.gta_rows.specs.declared.fault.RowsFault.TheVariants.{NoHeader, Missing, ColumnTwice}
+use Rattle.gta_rows.specs.declared.fault.RowsFault.TheVariants.{Length, Field, TooMany, Memory}
 
--- the records that csv reads behind one mark EF BB BF, trimmed; csv itself passes over one mark more
-unfoldable pub table_records : List ℕ → List (List (List ℕ))
+-- the records that csv reads behind one mark EF BB BF, trimmed; csv itself drops one mark more
+unfoldable pub table_records : List ℕ → List Record
 table_records bytes =
     map trimmed_record (records default_config (strip_bom (drop (mark_length bytes) bytes)))
 
@@ -23,41 +27,41 @@ abbrev pub header_text : ColumnItem → List ℕ
 header_text item = unwrap_or item.header item.name
 
 -- how many fields of the header are the text, and the number of the first
-abbrev pub times_in : List (List ℕ) → List ℕ → ℕ
+abbrev pub times_in : Record → List ℕ → ℕ
 times_in header text = count_by (λ field. bytes_eq field text) header
 
-abbrev pub place_in : List (List ℕ) → List ℕ → ℕ
+abbrev pub place_in : Record → List ℕ → ℕ
 place_in header text = position_or_len (λ field. bytes_eq field text) header
 
 -- where the cells of the columns stand in each record
-abbrev pub places : List (List ℕ) → List ColumnItem → List ℕ
+abbrev pub places : Record → List ColumnItem → List ℕ
 places header items = map (λ item. place_in header (header_text item)) items
 
 -- a declared column that the header lacks, and one that it has more than once; the first declared
-unfoldable pub missing : List (List ℕ) → List ColumnItem → Option RowsFault
+unfoldable pub missing : Record → List ColumnItem → Option RowsFault
 missing header items =
     option_map (λ item. Missing item.name)
     (find (λ item. times_in header (header_text item) == 0) items)
 
-unfoldable pub twice : List (List ℕ) → List ColumnItem → Option RowsFault
+unfoldable pub twice : Record → List ColumnItem → Option RowsFault
 twice header items =
     option_map (λ item. ColumnTwice item.name)
     (find (λ item. nat_lt 1 (times_in header (header_text item))) items)
 
 -- the first record with another number of fields than the header
-unfoldable pub wrong_length : ℕ → List (List (List ℕ)) → Option RowsFault
+unfoldable pub wrong_length : ℕ → List Record → Option RowsFault
 wrong_length width records =
     option_map (λ at. Length at.0 (length at.1) width)
     (find (λ at. not (length at.1 == width)) (enumerate_from 0 records))
 
 -- the record's number and that of its first column without a cell
-abbrev pub bad_cell : List ℕ → ℕ × List (List ℕ) → Option (ℕ × ℕ)
+abbrev pub bad_cell : List ℕ → ℕ × Record → Option (ℕ × ℕ)
 bad_cell columns at =
     option_map (λ column. (at.0, column))
     (position (has_no_cell at.1) columns)
 
 -- the first of these over all records
-unfoldable pub first_bad_cell : List ℕ → List (List (List ℕ)) → Option (ℕ × ℕ)
+unfoldable pub first_bad_cell : List ℕ → List Record → Option (ℕ × ℕ)
 first_bad_cell columns records =
     slice_get (filter_map (bad_cell columns) (enumerate_from 0 records)) 0
 
@@ -70,13 +74,15 @@ no_cell items bad = option_map (λ at. Field at.0 (column_name items at.1)) bad
 abbrev pub too_many : ℕ → Option RowsFault
 too_many count = if nat_lt ROW_LIMIT count then Some TooMany else None
 
--- the first fault of the records behind the header
-unfoldable pub fault_behind : List (List ℕ) → List ColumnItem → List (List (List ℕ)) → Option RowsFault
+-- the first fault of the records behind the header, each looked for over all of them
+unfoldable pub fault_behind : Record → List ColumnItem → List Record → Option RowsFault
 fault_behind header items records =
     option_or (wrong_length (length header) records)
-    (option_or (no_cell items (first_bad_cell (places header items) records)) (too_many (length records)))
+    (option_or (no_cell items (first_bad_cell (places header items) records))
+    (too_many (length records)))
 
-unfoldable pub fault_in : List ColumnItem → List (List (List ℕ)) → Option RowsFault
+-- the first fault of the records, the first of which is the header
+unfoldable pub fault_in : List ColumnItem → List Record → Option RowsFault
 fault_in items [] = Some NoHeader
 fault_in items (header ∷ records) =
     option_or (missing header items)
@@ -87,10 +93,10 @@ abbrev pub table_fault : List ColumnItem → List ℕ → Option RowsFault
 table_fault items bytes = fault_in items (table_records bytes)
 
 -- the cells of the columns, record by record
-unfoldable pub cells_of : List ℕ → List (List (List ℕ)) → List ℤ
+unfoldable pub cells_of : List ℕ → List Record → List ℤ
 cells_of columns records = flat_map (λ fields. filter_map (cell_at fields) columns) records
 
-unfoldable pub cells_in : List ColumnItem → List (List (List ℕ)) → List ℤ
+unfoldable pub cells_in : List ColumnItem → List Record → List ℤ
 cells_in items [] = []
 cells_in items (header ∷ records) = cells_of (places header items) records
 

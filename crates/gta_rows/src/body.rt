@@ -1,11 +1,12 @@
 //! The cells of the records behind the header, and the first that is none.
 
-ghost use Rattle.std.specs.Prelude.{◌≡◌, ◌+◌, ◌<◌, ◌≤◌, ◌∷◌, [], ◌++◌, None, IfOk, IfErr, OnOk, IsTrue, ℕ, List, false, is_some, length, option_to_list};
+ghost use Rattle.std.specs.Prelude.{◌≡◌, ◌+◌, ◌<◌, ◌≤◌, ◌∷◌, [], ◌++◌, None, IfOk, IfErr, OnOk};
+ghost use Rattle.std.specs.Prelude.{IsTrue, List, false, is_some, length, option_to_list};
 ghost use Rattle.std.specs.List.{filter_map, list_all, position};
 ghost use Rattle.gta_text.specs.declared.lines.TheConstants.{INPUT_BOUND};
 ghost use Rattle.gta_spec.specs.declared.limits.TheConstants.{COLUMN_LIMIT};
 ghost use Rattle.gta_checked.specs.Cells.{is_cell};
-ghost use Rattle.gta_rows.specs.Fields.{trimmed_fields, cell_at, has_no_cell};
+ghost use Rattle.gta_rows.specs.Fields.{Record, trimmed_fields, cell_at, has_no_cell};
 ghost use Rattle.gta_rows.specs.Reading.{IsReading, records_left};
 ghost use Rattle.gta_rows.specs.Table.{wrong_length, IsRefusal};
 ghost use Rattle.gta_rows.specs.Body.{IsBodyOf};
@@ -63,7 +64,8 @@ pub(crate) fn read_body(
 fn add_row(row: &ByteRecord, columns: &[usize], body: &mut Body) -> Result<(), AllocError>
     requires few { body.old.count < INPUT_BOUND }
     requires few_columns { length columns.now ≤ COLUMN_LIMIT }
-    ensures added { OnOk result ((records : List (List (List ℕ))) → IsBodyOf columns.now records body.old
+    ensures added { OnOk result ((records : List Record)
+        → IsBodyOf columns.now records body.old
         → IsBodyOf columns.now (records ++ trimmed_fields row.now ∷ []) body.new) }
 {
     let number = body.count;
@@ -87,12 +89,15 @@ fn add_cells(
     keep: bool,
     cells: &mut Vec<i64>,
 ) -> Result<Option<usize>, AllocError>
-    ensures bad { IfOk result (λ bad. bad ≡ position (has_no_cell (trimmed_fields row.now)) columns.now) }
+    ensures bad { IfOk result (λ bad. bad
+        ≡ position (has_no_cell (trimmed_fields row.now)) columns.now) }
     ensures cells { IfOk result (λ bad. bad ≡ None → IsTrue keep
-        → cells.new.items ≡ cells.old.items ++ filter_map (cell_at (trimmed_fields row.now)) columns.now) }
+        → cells.new.items
+        ≡ cells.old.items ++ filter_map (cell_at (trimmed_fields row.now)) columns.now) }
     ensures count { IfOk result (λ bad. bad ≡ None → IsTrue keep
         → length cells.new.items ≡ length cells.old.items + length columns.now) }
-    ensures within { OnOk result (IsTrue (list_all is_cell cells.old.items) → IsTrue (list_all is_cell cells.new.items)) }
+    ensures within { OnOk result (IsTrue (list_all is_cell cells.old.items)
+        → IsTrue (list_all is_cell cells.new.items)) }
 {
     for column in 0..columns.len() {
         if !add_cell(row, columns[column], keep, cells)? {
@@ -109,9 +114,11 @@ fn add_cell(
     keep: bool,
     cells: &mut Vec<i64>,
 ) -> Result<bool, AllocError>
-    ensures found { IfOk result (λ found. found ≡ is_some (cell_at (trimmed_fields row.now) place)) }
+    ensures found { IfOk result (λ found. found
+        ≡ is_some (cell_at (trimmed_fields row.now) place)) }
     ensures kept { OnOk result (IsTrue keep
-        → cells.new.items ≡ cells.old.items ++ option_to_list (cell_at (trimmed_fields row.now) place)) }
+        → cells.new.items
+        ≡ cells.old.items ++ option_to_list (cell_at (trimmed_fields row.now) place)) }
     ensures passed { OnOk result (keep ≡ false → cells.new.items ≡ cells.old.items) }
 {
     let Some(cell) = cell_at(row, place) else {

@@ -3,7 +3,8 @@
 ghost use Rattle.std.specs.Prelude.{◌≡◌, ◌≤◌, length, option_map, slice_get};
 ghost use Rattle.std.specs.List.{prefix_len, suffix_len};
 ghost use Rattle.gta_text.specs.Tokens.{is_blank};
-ghost use Rattle.gta_rows.specs.Fields.{without_front, without_back, trimmed, trimmed_fields, cell_at};
+ghost use Rattle.gta_rows.specs.Fields.{without_front, without_back, trimmed, trimmed_fields};
+ghost use Rattle.gta_rows.specs.Fields.{cell_at};
 
 use csv::ByteRecord;
 use gta_text::field_value;

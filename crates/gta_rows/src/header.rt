@@ -5,7 +5,8 @@ ghost use Rattle.std.specs.Option.{option_or};
 ghost use Rattle.std.specs.Str.{bytes_eq};
 ghost use Rattle.gta_rows.specs.Fields.{trimmed_fields};
 ghost use Rattle.gta_rows.specs.Places.{is_at};
-ghost use Rattle.gta_rows.specs.Table.{header_text, times_in, place_in, places, missing, twice, IsRefusal};
+ghost use Rattle.gta_rows.specs.Table.{header_text, times_in, place_in, places, missing, twice};
+ghost use Rattle.gta_rows.specs.Table.{IsRefusal};
 
 use crate::fault::RowsFault;
 use crate::fields::field_at;
@@ -21,11 +22,13 @@ pub(crate) fn places_of(
     items: &[ColumnItem],
     header: &ByteRecord,
 ) -> Result<Vec<usize>, RowsFault>
-    ensures places { IfOk result (λ columns. columns.items ≡ places (trimmed_fields header.now) items.now) }
+    ensures places { IfOk result (λ columns. columns.items
+        ≡ places (trimmed_fields header.now) items.now) }
     ensures none_missing { OnOk result (missing (trimmed_fields header.now) items.now ≡ None) }
     ensures none_twice { OnOk result (twice (trimmed_fields header.now) items.now ≡ None) }
     ensures refused { IfErr result (IsRefusal
-        (option_or (missing (trimmed_fields header.now) items.now) (twice (trimmed_fields header.now) items.now))) }
+        (option_or (missing (trimmed_fields header.now) items.now)
+        (twice (trimmed_fields header.now) items.now))) }
 {
     check_present(alloc, items, header)?;
     check_once(alloc, items, header)?;
@@ -97,7 +100,8 @@ fn place_in(header: &ByteRecord, text: &[u8]) -> usize
 }
 
 fn is_at(header: &ByteRecord, place: usize, text: &[u8]) -> bool
-    ensures { result ≡ is_at (λ field. bytes_eq field text.now) (trimmed_fields header.now) place }
+    ensures { result
+        ≡ is_at (λ field. bytes_eq field text.now) (trimmed_fields header.now) place }
 {
     match field_at(header, place) {
         Some(field) => field == text,

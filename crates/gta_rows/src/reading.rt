@@ -16,7 +16,8 @@ pub(crate) fn reader_of<'a>(alloc: Global, bytes: &'a [u8]) -> Reader<&'a [u8]>
     requires { length bytes.now ≤ INPUT_BOUND }
     ensures reading { IsReading result }
     ensures few { length (records_left result) ≤ INPUT_BOUND }
-    ensures records { records_left result ≡ map trimmed_record (records default_config (strip_bom bytes.now)) }
+    ensures records { records_left result
+        ≡ map trimmed_record (records default_config (strip_bom bytes.now)) }
 {
     ReaderBuilder::new()
         .has_headers(false)
@@ -33,7 +34,8 @@ pub(crate) fn next_record(
     ensures reading { IfOk result (λ found. found ≡ true → IsReading reader.new) }
     ensures next { IfOk result (λ found. found ≡ true
         → records_left reader.old ≡ trimmed_fields row.new ∷ records_left reader.new) }
-    ensures narrow { IfOk result (λ found. found ≡ true → length (trimmed_fields row.new) ≤ INPUT_BOUND + 1) }
+    ensures narrow { IfOk result (λ found. found ≡ true
+        → length (trimmed_fields row.new) ≤ INPUT_BOUND + 1) }
     ensures end { IfOk result (λ found. found ≡ false → records_left reader.old ≡ []) }
     ensures memory { IfErr result (λ fault. fault ≡ Memory) }
 {

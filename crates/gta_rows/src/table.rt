@@ -1,6 +1,7 @@
 //! The table of an input, read into rows. See specs/Table.antt.
 
-ghost use Rattle.std.specs.Prelude.{◌≡◌, ◌+◌, ◌*◌, ◌<◌, ◌≤◌, ◌∷◌, None, IfOk, IfErr, IfSome, OnOk, IsTrue, drop, length};
+ghost use Rattle.std.specs.Prelude.{◌≡◌, ◌+◌, ◌*◌, ◌<◌, ◌≤◌, ◌∷◌, None, IfOk, IfErr, IfSome, OnOk};
+ghost use Rattle.std.specs.Prelude.{IsTrue, drop, length};
 ghost use Rattle.std.specs.List.{list_all};
 ghost use Rattle.std.specs.Option.{option_or};
 ghost use Rattle.gta_text.specs.declared.lines.TheConstants.{INPUT_BOUND};
@@ -68,7 +69,8 @@ fn rows_under(
     ensures columns { IfOk result (λ rows. rows.columns ≡ length items.now) }
     ensures cells { IfOk result (λ rows. rows.cells.items
         ≡ cells_in items.now (trimmed_fields header.now ∷ records_left reader.old)) }
-    ensures accepted { OnOk result (fault_in items.now (trimmed_fields header.now ∷ records_left reader.old) ≡ None) }
+    ensures accepted { OnOk result
+        (fault_in items.now (trimmed_fields header.now ∷ records_left reader.old) ≡ None) }
     ensures refused { IfErr result (IsRefusal
         (fault_in items.now (trimmed_fields header.now ∷ records_left reader.old))) }
 {
@@ -90,7 +92,8 @@ fn rows_of(alloc: Global, items: &[ColumnItem], body: Body) -> Result<Rows, Rows
     ensures cells { IfOk result (λ rows. rows.cells ≡ body.cells) }
     ensures good { OnOk result (body.bad ≡ None) }
     ensures few { OnOk result (body.count ≤ ROW_LIMIT) }
-    ensures refused { IfErr result (IsRefusal (option_or (no_cell items.now body.bad) (too_many body.count))) }
+    ensures refused { IfErr result
+        (IsRefusal (option_or (no_cell items.now body.bad) (too_many body.count))) }
 {
     if let Some((row, column)) = body.bad {
         let column = Name::of(alloc, items[column as usize].name.bytes())?;

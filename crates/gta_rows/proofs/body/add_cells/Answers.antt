@@ -1,4 +1,5 @@
-use Rattle.std.proofs.Common.{◌≡◌, ◌∙◌, ℤ, List, [], ◌∷◌, ◌++◌, length, take, get_or, not, is_some, true, Option, append_assoc, sym, ap, arith}
+use Rattle.std.proofs.Common.{◌≡◌, ◌∙◌, ℤ, List, [], ◌∷◌, ◌++◌, length, take, get_or, not, is_some}
+use Rattle.std.proofs.Common.{true, Option, append_assoc, sym, ap, arith}
 use Rattle.std.specs.Prelude.{IsTrue, option_to_list}
 use Rattle.std.specs.List.{filter_map}
 use Rattle.std.proofs.lemmas.List.{length-append}
@@ -29,13 +30,23 @@ loop-column-preserved c =
     let kept : IsTrue c.args.keep → c.add_cell.new.cells.items ≡ c.loop-column.cells.items ++ there.0 ∷ [] =
     λ keep. added.kept keep ∙ ap (λ (o : Option ℤ). c.loop-column.cells.items ++ option_to_list o) there.1 in
     record {
-      so_far = place_more (has_no_cell fields) c.args.columns.now c.loop-column.column c.loop-column-test.true before.so_far
-          (at_get (has_no_cell fields) c.args.columns.now c.loop-column.column 0 c.loop-column-test.true ∙ ap not found);
+      so_far = place_more (has_no_cell fields) c.args.columns.now c.loop-column.column
+          c.loop-column-test.true before.so_far
+          (at_get (has_no_cell fields) c.args.columns.now c.loop-column.column 0 c.loop-column-test.true
+          ∙ ap not found);
       cells = λ keep. kept keep ∙ ap (λ (xs : List ℤ). xs ++ there.0 ∷ []) (before.cells keep)
-          ∙ append_assoc c.args.cells.now.items (filter_map (cell_at fields) (take c.loop-column.column c.args.columns.now)) (there.0 ∷ [])
+          ∙ append_assoc c.args.cells.now.items
+          (filter_map (cell_at fields) (take c.loop-column.column c.args.columns.now)) (there.0 ∷ [])
           ∙ ap (λ (xs : List ℤ). c.args.cells.now.items ++ xs)
-          (sym (one_made (cell_at fields) c.args.columns.now c.loop-column.column 0 there.0 c.loop-column-test.true there.1));
-      count = λ keep. omega (arith, ap (λ (xs : List ℤ). length xs) (kept keep), length-append c.loop-column.cells.items (there.0 ∷ []), before.count keep);
+          (sym (one_made (cell_at fields) c.args.columns.now c.loop-column.column 0
+          there.0 c.loop-column-test.true there.1));
+      count = λ keep. omega (
+        arith,
+        ap (λ (xs : List ℤ). length xs)
+            (kept keep),
+        length-append c.loop-column.cells.items (there.0 ∷ []),
+        before.count keep,
+      );
       within = λ all. within_more c.args.keep c.loop-column.cells.items c.add_cell.new.cells.items fields place
           added.kept added.passed (before.within all);
     }

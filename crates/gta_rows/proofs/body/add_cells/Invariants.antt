@@ -8,7 +8,8 @@ use Rattle.gta_rows.proofs.body.add_cells.Given as goal
 abbrev pub invariant-loop-column : goal.invariant-loop-column
 invariant-loop-column l = record {
   so_far : position_or_len (has_no_cell (trimmed_fields l.row)) (take l.column l.columns) ≡ l.column;
-  cells : IsTrue l.keep → l.cells.items ≡ l.fn.cells.items ++ filter_map (cell_at (trimmed_fields l.row)) (take l.column l.columns);
+  cells : IsTrue l.keep
+      → l.cells.items ≡ l.fn.cells.items ++ filter_map (cell_at (trimmed_fields l.row)) (take l.column l.columns);
   count : IsTrue l.keep → length l.cells.items ≡ length l.fn.cells.items + l.column;
   within : IsTrue (list_all is_cell l.fn.cells.items) → IsTrue (list_all is_cell l.cells.items);
 }

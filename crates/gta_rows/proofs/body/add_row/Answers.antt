@@ -6,14 +6,17 @@ use Rattle.gta_rows.proofs.body.add_row.Goals as goal
 
 pub returns-in-Some : goal.returns-in-Some
 returns-in-Some c = record {
-  added = λ records is. known_bad c.args.columns.now records (trimmed_fields c.args.row.now) c.args.body.now _ c.in-Some.field-0
+  added = λ records is. known_bad c.args.columns.now records
+      (trimmed_fields c.args.row.now) c.args.body.now _ c.in-Some.field-0
       is c.in-Some.is refl refl refl;
 }
 
 pub returns-in-Some-2 : goal.returns-in-Some-2
 returns-in-Some-2 c = record {
-  added = λ records is. new_bad c.args.columns.now records (trimmed_fields c.args.row.now) c.args.body.now _ c.in-Some-2.column
-      is c.in_default.is (sym c.in_ok-column.ensures.bad ∙ c.in-Some-2.is) refl refl (c.in_ok-column.ensures.within is.within);
+  added = λ records is. new_bad c.args.columns.now records
+      (trimmed_fields c.args.row.now) c.args.body.now _ c.in-Some-2.column
+      is c.in_default.is (sym c.in_ok-column.ensures.bad ∙ c.in-Some-2.is) refl refl
+      (c.in_ok-column.ensures.within is.within);
 }
 
 pub returns : goal.returns

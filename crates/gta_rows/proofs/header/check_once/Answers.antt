@@ -16,14 +16,18 @@ unfolding twice
 returns-then-times_in-gt1-clause-refused c =
     let more : nat_lt 1 c.times_in.result ≡ true = grind (arith, nat_tests) in
     rw (c.in_ok-column.ensures, c.bytes.ensures)
-    (first_here (λ (item : ColumnItem). nat_lt 1 (times_in (trimmed_fields c.args.header.now) (header_text item))) (λ (item : ColumnItem). ColumnTwice item.name)
-    c.args.items.now c.loop-item.item-index c.item-item.result c.loop-item-test.true c.item-item.is c.loop-item.invariant
+    (first_here (λ (item : ColumnItem). nat_lt 1 (times_in (trimmed_fields c.args.header.now) (header_text item)))
+    (λ (item : ColumnItem). ColumnTwice item.name)
+    c.args.items.now c.loop-item.item-index
+    c.item-item.result c.loop-item-test.true c.item-item.is c.loop-item.invariant
     (rw (c.times_in.ensures, c.header_text.ensures) at more))
 
 pub loop-item-preserved : goal.loop-item-preserved
 unfolding twice
 loop-item-preserved c =
     let few : nat_lt 1 c.times_in.result ≡ false = grind (arith, nat_tests) in
-    first_more (λ (item : ColumnItem). nat_lt 1 (times_in (trimmed_fields c.args.header.now) (header_text item))) (λ (item : ColumnItem). ColumnTwice item.name)
-    c.args.items.now c.loop-item.item-index c.item-item.result c.loop-item-test.true c.item-item.is c.loop-item.invariant
+    first_more (λ (item : ColumnItem). nat_lt 1 (times_in (trimmed_fields c.args.header.now) (header_text item)))
+    (λ (item : ColumnItem). ColumnTwice item.name)
+    c.args.items.now c.loop-item.item-index
+    c.item-item.result c.loop-item-test.true c.item-item.is c.loop-item.invariant
     (rw (c.times_in.ensures, c.header_text.ensures) at few)

@@ -11,9 +11,11 @@ loop-place-preserved c =
     let within : c.loop-place.place < length (trimmed_fields c.args.header.now) = rw length-map (omega arith) in
     elim c.if-is_at.branch [
       | then-is_at w ↦ w.times-is ∙ ap (λ (n : ℕ). n + 1) c.loop-place.invariant
-          ∙ sym (count_hit (λ (field : List ℕ). bytes_eq field c.args.text.now) (trimmed_fields c.args.header.now) c.loop-place.place [] within
+          ∙ sym (count_hit (λ (field : List ℕ). bytes_eq field c.args.text.now)
+          (trimmed_fields c.args.header.now) c.loop-place.place [] within
           (sym w.if-is_at.ensures))
       | else-is_at w ↦ w.times-is ∙ c.loop-place.invariant
-          ∙ sym (count_miss (λ (field : List ℕ). bytes_eq field c.args.text.now) (trimmed_fields c.args.header.now) c.loop-place.place [] within
+          ∙ sym (count_miss (λ (field : List ℕ). bytes_eq field c.args.text.now)
+          (trimmed_fields c.args.header.now) c.loop-place.place [] within
           (sym w.if-is_at.ensures))
     ]
