@@ -1,5 +1,6 @@
 -- What the key of a candidate decides: the product of letters is the total, stopped one past the bound.
-use Rattle.std.proofs.Common.{◌≡◌, ℕ, zero, suc, ◌+◌, ◌*◌, ◌<◌, min, ℤ, pos, ◌+ℤ◌, ◌≤ℤ◌, nat_abs, Bool, true, false, List, [], ◌∷◌, replicate, get_or, slice_index_or, All, Some, None, inl, inr, refl, sym, ap, ◌∙◌, arith}
+use Rattle.std.proofs.Common.{◌≡◌, ℕ, zero, suc, ◌+◌, ◌*◌, ◌<◌, min, ℤ, pos, ◌+ℤ◌, ◌≤ℤ◌, nat_abs, Bool, true, false}
+use Rattle.std.proofs.Common.{List, [], ◌∷◌, replicate, get_or, slice_index_or, All, Some, None, inl, inr, refl, sym, ap, ◌∙◌, arith}
 use Rattle.std.specs.List.{list_all}
 use Rattle.std.proofs.lemmas.Int.{ints}
 use Rattle.std.proofs.lemmas.List.{length-replicate}
@@ -36,8 +37,12 @@ stopped-compares AtLeast t b natural = grind (arith, ints)
 stopped-compares Equal t b natural = grind (arith, ints)
 
 module _ (checked : PlainChecked) (rows : PlainRows) (measure bound : ℕ)
-    (natural : (row label : ℕ) → row < rows.count → label < label_count checked → pos 0 ≤ℤ value checked rows measure row label) where
-  total-natural : (c : List Mark) → All (IsMarkInRange rows.count (label_count checked)) c → pos 0 ≤ℤ total checked rows measure c
+    (natural : (row label : ℕ) → row < rows.count → label < label_count checked
+    → pos 0 ≤ℤ value checked rows measure row label) where
+  abbrev AllInRange : List Mark → Type 0
+  AllInRange c = All (IsMarkInRange rows.count (label_count checked)) c
+
+  total-natural : (c : List Mark) → AllInRange c → pos 0 ≤ℤ total checked rows measure c
   total-natural [] in_range = omega (arith, ints)
   total-natural (m ∷ ms) in_range =
       let mark_in : IsMarkInRange rows.count (label_count checked) m = in_range 0 m (omega arith) in
@@ -45,18 +50,20 @@ module _ (checked : PlainChecked) (rows : PlainRows) (measure bound : ℕ)
       let rest = total-natural ms (All-tail (IsMarkInRange rows.count (label_count checked)) m ms in_range) in
       omega (arith, ints, here, rest)
 
-  product-total : (c : List Mark) → All (IsMarkInRange rows.count (label_count checked)) c
-      → product_by 0 (capped_sum bound) (λ (m : Mark). slice_index_or (sum_letters checked rows measure bound) (m.row * label_count checked + m.label) 0) c
-      ≡ letter_of bound (total checked rows measure c)
+  abbrev letter : Mark → ℕ
+  letter m = slice_index_or (sum_letters checked rows measure bound) (m.row * label_count checked + m.label) 0
+
+  product-total : (c : List Mark) → AllInRange c
+      → product_by 0 (capped_sum bound) letter c ≡ letter_of bound (total checked rows measure c)
   product-total [] in_range = omega arith
   product-total (m ∷ ms) in_range =
-      let letters = sum_letters checked rows measure bound in
-      let key : Mark → ℕ = λ m. slice_index_or letters (m.row * label_count checked + m.label) 0 in
+      let here = value checked rows measure m.row m.label in
       let mark_in : IsMarkInRange rows.count (label_count checked) m = in_range 0 m (omega arith) in
       let rest_in = All-tail (IsMarkInRange rows.count (label_count checked)) m ms in_range in
-      ap (λ k. capped_sum bound k (product_by 0 (capped_sum bound) key ms)) (letter-at checked rows measure bound m.row m.label mark_in.row mark_in.label)
-      ∙ ap (capped_sum bound (letter_of bound (value checked rows measure m.row m.label))) (product-total ms rest_in)
-      ∙ sum-stopped (value checked rows measure m.row m.label) (total checked rows measure ms) bound
+      ap (λ k. capped_sum bound k (product_by 0 (capped_sum bound) letter ms))
+      (letter-at checked rows measure bound m.row m.label mark_in.row mark_in.label)
+      ∙ ap (capped_sum bound (letter_of bound here)) (product-total ms rest_in)
+      ∙ sum-stopped here (total checked rows measure ms) bound
       (natural m.row m.label mark_in.row mark_in.label) (total-natural ms rest_in)
 
 list_all-one : {A : Type 0} (p : A → Bool) (x : A) → list_all p (x ∷ []) ≡ p x
@@ -66,15 +73,22 @@ list_all-one p x = by_test (p x)
     by_test true = refl
     by_test false = refl
 
-module _ (checked : PlainChecked) (rows : PlainRows) (sum : ComparedSum) (the_test : checked.tests ≡ tests_of (Some sum))
+module _ (checked : PlainChecked) (rows : PlainRows) (sum : ComparedSum)
+    (the_test : checked.tests ≡ tests_of (Some sum))
     (none : negative_value checked rows 0 sum.measure ≡ None) where
+  abbrev is_accepted : ℕ → Bool
+  is_accepted key = compares sum.cmp (pos key) (pos sum.bound)
+
   sum-decides : Decides checked rows (tests_of_sum checked rows sum)
   sum-decides c in_range =
       let natural = natural-values checked rows 0 sum.measure none in
-      let key = letter_of sum.bound (total checked rows sum.measure c) in
-      ap (λ k. slice_index_or (accepted_keys sum.cmp sum.bound) k false) (product-total checked rows sum.measure sum.bound natural c in_range.each)
-      ∙ get_or-map-range_with_len (λ k. compares sum.cmp (pos k) (pos sum.bound)) 0 (sum.bound + 2) key key false (omega arith) (omega arith)
-      ∙ stopped-compares sum.cmp (total checked rows sum.measure c) sum.bound (total-natural checked rows sum.measure sum.bound natural c in_range.each)
+      let sum_of_marks = total checked rows sum.measure c in
+      let key = letter_of sum.bound sum_of_marks in
+      ap (λ k. slice_index_or (accepted_keys sum.cmp sum.bound) k false)
+      (product-total checked rows sum.measure sum.bound natural c in_range.each)
+      ∙ get_or-map-range_with_len is_accepted 0 (sum.bound + 2) key key false (omega arith) (omega arith)
+      ∙ stopped-compares sum.cmp sum_of_marks sum.bound
+      (total-natural checked rows sum.measure sum.bound natural c in_range.each)
       ∙ sym (list_all-one (passes_test checked rows c) (Sum sum.measure (Compare sum.cmp (pos sum.bound))))
       ∙ ap (list_all (passes_test checked rows c)) (sym the_test)
 
@@ -82,7 +96,7 @@ module _ (checked : PlainChecked) (rows : PlainRows) (sum : ComparedSum) (the_te
   sum-ArePrepared = record {
     count = length-sum_letters checked rows sum.measure sum.bound;
     keys = keys-sum_letters checked rows sum.measure sum.bound;
-    accept = length-map-range_with_len (λ k. compares sum.cmp (pos k) (pos sum.bound)) 0 (sum.bound + 2);
+    accept = length-map-range_with_len is_accepted 0 (sum.bound + 2);
     decides = sum-decides;
   }
 

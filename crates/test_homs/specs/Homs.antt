@@ -11,7 +11,8 @@ use Rattle.gta_checked.specs.Plain.{PlainTest, Sum, Length, Fold, PlainChecked}
 use Rattle.gta_meaning.specs.InRange.{IsInRange, label_count}
 use Rattle.gta_meaning.specs.Tests.{passes}
 
--- the bound of the keys, which are sums that stop one past it; a letter for each row and label; which keys are accepted
+-- the bound of the keys, which are sums that stop one past it; a letter for each row and label; and
+-- which keys are accepted
 pub record PlainTests : Type 0 where
   pub bound : ℕ
   pub letters : List ℕ

@@ -29,7 +29,8 @@ first_some f (x ∷ xs) = or_else (f x) (first_some f xs)
 -- the first label with which a row's value is negative
 abbrev pub negative_label : PlainChecked → PlainRows → ℕ → ℕ → Option ℕ
 negative_label checked rows measure row =
-    find (λ label. int_lt (value checked rows measure row label) (pos 0)) (range_with_len 0 (label_count checked))
+    find (λ label. int_lt (value checked rows measure row label) (pos 0))
+    (range_with_len 0 (label_count checked))
 
 -- the first label at which a measure is negative in a row
 abbrev pub negative_at : PlainChecked → PlainRows → ℕ → ℕ → ℕ → Option Negative

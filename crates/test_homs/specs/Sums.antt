@@ -1,5 +1,6 @@
 -- Letters and accepted keys of one compared sum, and of no test.
-use Rattle.std.specs.Prelude.{ℕ, ◌+◌, ◌*◌, min, ℤ, pos, nat_abs, Bool, true, List, [], ◌∷◌, map, replicate, Option, Some, None}
+use Rattle.std.specs.Prelude.{ℕ, ◌+◌, ◌*◌, min, ℤ, pos, nat_abs, Bool, true}
+use Rattle.std.specs.Prelude.{List, [], ◌∷◌, map, replicate, Option, Some, None}
 use Rattle.std.specs.List.{flat_map, range_with_len}
 use Rattle.gta_spec.specs.declared.parts.Cmp.{Cmp}
 use Rattle.gta_spec.specs.declared.parts.Check.TheVariants.{Compare}
@@ -22,7 +23,8 @@ letter_of bound value = min (nat_abs value) (bound + 1)
 -- the letters of a row, label by label
 abbrev pub row_letters : PlainChecked → PlainRows → ℕ → ℕ → ℕ → List ℕ
 row_letters checked rows measure bound row =
-    map (λ label. letter_of bound (value checked rows measure row label)) (range_with_len 0 (label_count checked))
+    map (λ label. letter_of bound (value checked rows measure row label))
+    (range_with_len 0 (label_count checked))
 
 -- the letters of all rows
 abbrev pub sum_letters : PlainChecked → PlainRows → ℕ → ℕ → List ℕ

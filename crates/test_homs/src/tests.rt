@@ -1,5 +1,6 @@
 //! Worked examples by hand: letters, accepted keys, and first negative values.
-//! One specification serves all: a column v, labels A and B, and measures v and turned = 3*v if label A ; -1*v.
+//! One specification serves all: a column v, labels A and B, and measures v and
+//! turned = 3*v if label A ; -1*v.
 
 ghost use Rattle.std.specs.Prelude.{◌≡◌, ◌<◌, ◌≤◌, All, IsTrue, IfOk, length, map};
 ghost use Rattle.std.specs.List.{list_all};

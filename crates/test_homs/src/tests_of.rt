@@ -84,8 +84,9 @@ impl Tests {
     }
 }
 
-/// The letters of the rows and labels for the tests of a checked specification, and the keys that they accept.
-/// Each value is looked at once. Refused at the first negative value of a compared sum, by test, row and label.
+/// The letters of the rows and labels for the tests of a checked specification, and the keys that they
+/// accept. Each value is looked at once. Refused at the first negative value of a compared sum, by test,
+/// row and label.
 pub fn prepare_tests(alloc: Global, checked: &Checked, rows: &Rows) -> Result<Tests, ValueFault>
     requires built { AreBuilt checked.now.tests }
     requires columns { HasColumnsOf checked.now (plain_rows rows.now) }

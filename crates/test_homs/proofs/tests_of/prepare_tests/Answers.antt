@@ -5,7 +5,8 @@ use Rattle.test_homs.specs.Homs.{ArePrepared}
 use Rattle.test_homs.proofs.Keys.{none-ArePrepared, sum-ArePrepared}
 use Rattle.test_homs.proofs.tests_of.prepare_tests.Goals as goal
 
-on_ok-and : {T E P : Type 0} (r : Result T E) (Q R : T → Type 0) → ((x : T) → P → Q x → R x) → OnOk r P → IfOk r Q → IfOk r R
+on_ok-and : {T E P : Type 0} (r : Result T E) (Q R : T → Type 0) → ((x : T) → P → Q x → R x)
+    → OnOk r P → IfOk r Q → IfOk r R
 on_ok-and (Ok x) Q R both p q = both x p q
 on_ok-and (Err e) Q R both p q = tt
 
