@@ -1,4 +1,4 @@
-use Rattle.std.proofs.Common.{◌≡◌, ◌++◌, List, ℕ, None, length}
+use Rattle.std.proofs.Common.{◌≡◌, ◌++◌, List, None, length}
 use Rattle.gta_rows.specs.Reading.{IsReading, records_left}
 use Rattle.gta_rows.specs.Table.{wrong_length}
 use Rattle.gta_rows.specs.Body.{IsBodyOf}
