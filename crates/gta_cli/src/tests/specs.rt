@@ -156,7 +156,8 @@ fn refusals_in_their_order(rt: HostRuntime) -> Result<(), Fail> {
     Ok(())
 }
 
-// A specification that grows by a piece: how often it may stand, and the refusal of one more.
+// A specification that grows by a piece: how often it may stand, how often it may not, and
+// the refusal.
 #[derive(Clone, Copy)]
 struct Growing {
     head: &'static str,
@@ -166,6 +167,7 @@ struct Growing {
     behind: &'static str,
     tail: &'static str,
     most: u32,
+    past: u32,
     refused: &'static [u8],
     // Whether there is a table, which is not built yet.
     table: bool,
@@ -195,6 +197,7 @@ fn limits_of_what_grows(rt: HostRuntime) -> Result<(), Fail> {
         behind: "",
         tail: rest,
         most: 32,
+        past: 33,
         refused: b"refused 25: line 2: limit columns\n",
         table: false,
     };
@@ -205,6 +208,7 @@ fn limits_of_what_grows(rt: HostRuntime) -> Result<(), Fail> {
             before: "n",
             numbered: false,
             most: 64,
+            past: 65,
             refused: b"refused 25: line 2: limit name\n",
             ..base
         },
@@ -214,6 +218,7 @@ fn limits_of_what_grows(rt: HostRuntime) -> Result<(), Fail> {
             numbered: false,
             tail: "\"\ngenerate sublists\naggregate count\nrows\n",
             most: 256,
+            past: 257,
             refused: b"refused 25: line 2: limit header\n",
             ..base
         },
@@ -222,6 +227,7 @@ fn limits_of_what_grows(rt: HostRuntime) -> Result<(), Fail> {
             before: " l",
             tail: "\ngenerate assign\naggregate count\nrows\n",
             most: 16,
+            past: 17,
             refused: b"refused 25: line 3: limit labels\n",
             ..base
         },
@@ -231,6 +237,7 @@ fn limits_of_what_grows(rt: HostRuntime) -> Result<(), Fail> {
             behind: " = 1\n",
             tail: "rows\n",
             most: 32,
+            past: 33,
             refused: b"refused 25: line 37: limit measures\n",
             ..base
         },
@@ -240,6 +247,7 @@ fn limits_of_what_grows(rt: HostRuntime) -> Result<(), Fail> {
             behind: " unit e elements e\n",
             tail: "rows\n",
             most: 8,
+            past: 9,
             refused: b"refused 25: line 13: limit tables\n",
             table: true,
             ..base
@@ -250,6 +258,7 @@ fn limits_of_what_grows(rt: HostRuntime) -> Result<(), Fail> {
             behind: "\n",
             tail: "rows\n",
             most: 8,
+            past: 9,
             refused: b"refused 25: line 13: limit tests\n",
             ..base
         },
@@ -257,6 +266,7 @@ fn limits_of_what_grows(rt: HostRuntime) -> Result<(), Fail> {
             head: "gta 1\ncolumns v\ntable t unit e0 elements",
             before: " e",
             most: 64,
+            past: 65,
             refused: b"refused 25: line 3: limit elements\n",
             table: true,
             ..base
@@ -265,6 +275,7 @@ fn limits_of_what_grows(rt: HostRuntime) -> Result<(), Fail> {
             head: "gta 1\ncolumns v\nmeasure m = 1",
             before: " ; ",
             most: 15,
+            past: 16,
             refused: b"refused 25: line 3: limit cases\n",
             ..base
         },
@@ -274,6 +285,7 @@ fn limits_of_what_grows(rt: HostRuntime) -> Result<(), Fail> {
             numbered: false,
             tail: " accept e\ngenerate sublists\naggregate count\nrows\n",
             most: 15,
+            past: 16,
             refused: b"refused 25: line 4: limit cases\n",
             table: true,
             ..base
@@ -283,6 +295,7 @@ fn limits_of_what_grows(rt: HostRuntime) -> Result<(), Fail> {
             before: " - ",
             behind: "*v",
             most: 31,
+            past: 32,
             refused: b"refused 25: line 3: limit terms\n",
             ..base
         },
@@ -290,6 +303,7 @@ fn limits_of_what_grows(rt: HostRuntime) -> Result<(), Fail> {
             head: "gta 1\ncolumns v\nmeasure m = 1 if v = 0",
             before: " and v >= ",
             most: 7,
+            past: 8,
             refused: b"refused 25: line 3: limit atoms\n",
             ..base
         },
@@ -297,26 +311,12 @@ fn limits_of_what_grows(rt: HostRuntime) -> Result<(), Fail> {
     for text in texts {
         let most = grown(rt.alloc(), &text, text.most)?;
         let ended = called(&rt, rt.alloc(), &["show"], most.as_bytes(), SMOOTH)?;
-        let unbuilt: &[u8] = if text.table {
-            b"refused 1: not built yet\n"
-        } else {
-            b""
-        };
-        assert_eq!(rt;
-            ended.err.as_slice(),
-            unbuilt,
-            "the most at {:?}",
-            text.refused
-        );
-        assert_eq!(rt;
-            ended.out.is_empty(),
-            text.table,
-            "the most at {:?}",
-            text.refused
-        );
-        let past = grown(rt.alloc(), &text, text.most + 1)?;
+        let status = if text.table { 1 } else { 0 };
+        assert_eq!(rt; ended.status, status, "at {most:?}");
+        assert_eq!(rt; ended.out.is_empty(), text.table, "at {most:?}");
+        let past = grown(rt.alloc(), &text, text.past)?;
         let ended = called(&rt, rt.alloc(), &["show"], past.as_bytes(), SMOOTH)?;
-        assert_eq!(rt; ended.err.as_slice(), text.refused);
+        assert_eq!(rt; ended.err.as_slice(), text.refused, "at {past:?}");
     }
     Ok(())
 }
