@@ -91,9 +91,10 @@ module _ {F : Type 0} where
     abbrev pub IsSeat : ℕ → ℕ → Holder F W → Type 0
     IsSeat number spare me = IsSeatWith number spare me.0 me.1
 
-  -- the seat was made on this board, and doesn't hold the turn
+  -- the seat was made on this board, whose room is a 32-bit number, and doesn't hold the turn
   pub record IsReady (board : TableId) (seat : SeatSeen F) : Type 0 where
     pub table : seat.table ≡ board
+    pub room : seat.room < 2 ^ 32
     pub turn : seat.holds ≡ false
 
   -- the seat that `start` makes

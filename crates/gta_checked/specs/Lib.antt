@@ -1,4 +1,5 @@
 pub mod Plain
+pub mod Tables
 pub mod Within
 pub mod Cells
 pub mod PlainRows

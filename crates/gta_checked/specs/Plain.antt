@@ -1,6 +1,8 @@
 -- A checked specification with lists in place of vectors, as definitions speak of it.
 use Rattle.std.specs.Prelude.{ℕ, List, map}
 use Rattle.shape_gen.specs.declared.shape.Shape.{Shape}
+use Rattle.monoid_kit.specs.Table.{PlainTable}
+use Rattle.monoid_kit.specs.TableOf.{plain_table}
 use Rattle.gta_spec.specs.declared.parts.Check.{Check}
 use Rattle.gta_spec.specs.declared.parts.ColumnItem.{ColumnItem}
 use Rattle.gta_checked.specs.declared.resolved.Term.{Term}
@@ -8,6 +10,7 @@ use Rattle.gta_checked.specs.declared.resolved.Atom.{Atom}
 use Rattle.gta_checked.specs.declared.resolved.Case.{Case}
 use Rattle.gta_checked.specs.declared.resolved.Measure.{Measure}
 use Rattle.gta_checked.specs.declared.resolved.Pick.{Pick}
+use Rattle.gta_checked.specs.declared.resolved.Table.{Table}
 use Rattle.gta_checked.specs.declared.resolved.Test.{Test}
 use Rattle.gta_checked.specs.declared.resolved.Test.TheVariants as tests
 use Rattle.gta_checked.specs.declared.resolved.Goal.{Goal}
@@ -22,6 +25,12 @@ pub record PlainPick : Type 0 where
   pub element : ℕ
   pub cond : List Atom
 
+-- a table's name, the names of its elements, and the products of these by their numbers
+pub record NamedTable : Type 0 where
+  pub name : List ℕ
+  pub elements : List (List ℕ)
+  pub products : PlainTable
+
 pub data PlainTest : Type 0 where
   Sum : ℕ → Check → PlainTest
   Length : Check → PlainTest
@@ -33,6 +42,7 @@ pub record PlainChecked : Type 0 where
   pub columns : List ColumnItem
   pub labels : List (List ℕ)
   pub measures : List (List PlainCase)
+  pub tables : List NamedTable
   pub tests : List PlainTest
   pub shape : Shape
   pub goal : Goal
@@ -46,18 +56,27 @@ plain_measure measure = map plain_case measure.cases.items
 abbrev pub plain_pick : Pick → PlainPick
 plain_pick pick = record { element = pick.element; cond = pick.cond.items }
 
+abbrev pub plain_named : Table → NamedTable
+plain_named table = record {
+  name = table.name;
+  elements = table.elements.items;
+  products = plain_table table.monoid;
+}
+
 abbrev pub plain_test : Test → PlainTest
 plain_test (tests.Sum measure check) = Sum measure check
 plain_test (tests.Length check) = Length check
 plain_test (tests.Fold table picks accept) = Fold table (map plain_pick picks.items) accept.items
 
-abbrev pub plain_checked : ℕ → List ColumnItem → List (List ℕ) → List Measure → List Test → Shape → Goal → PlainChecked
-plain_checked version columns labels measures tests shape goal =
+abbrev pub plain_checked : ℕ → List ColumnItem → List (List ℕ) → List Measure → List Table → List Test
+    → Shape → Goal → PlainChecked
+plain_checked version columns labels measures tables tests shape goal =
     record {
       version = version;
       columns = columns;
       labels = labels;
       measures = map plain_measure measures;
+      tables = map plain_named tables;
       tests = map plain_test tests;
       shape = shape;
       goal = goal;

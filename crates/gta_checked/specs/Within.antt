@@ -4,7 +4,7 @@ use Rattle.gta_text.specs.declared.numbers.TheConstants.{NUMBER_BOUND}
 use Rattle.shape_gen.specs.declared.shape.Shape.TheVariants.{Assign}
 use Rattle.gta_spec.specs.declared.limits.TheConstants.{ATOM_LIMIT, BOUND_LIMIT, CASE_LIMIT, COLUMN_LIMIT, FACTOR_LIMIT}
 use Rattle.gta_spec.specs.declared.limits.TheConstants.{KEEP_LIMIT, LABEL_LIMIT, MEASURE_LIMIT, MODULUS_LIMIT}
-use Rattle.gta_spec.specs.declared.limits.TheConstants.{TABLE_LIMIT, ELEMENT_LIMIT, TERM_LIMIT, TEST_LIMIT}
+use Rattle.gta_spec.specs.declared.limits.TheConstants.{TABLE_LIMIT, TERM_LIMIT, TEST_LIMIT}
 use Rattle.gta_spec.specs.declared.parts.Check.{Check}
 use Rattle.gta_spec.specs.declared.parts.Check.TheVariants.{Compare, Mod}
 use Rattle.gta_checked.specs.declared.resolved.Term.{Term}
@@ -12,7 +12,9 @@ use Rattle.gta_checked.specs.declared.resolved.Atom.{Atom}
 use Rattle.gta_checked.specs.declared.resolved.Atom.TheVariants.{Label, Column}
 use Rattle.gta_checked.specs.declared.resolved.Goal.{Goal}
 use Rattle.gta_checked.specs.declared.resolved.Goal.TheVariants.{Count, Any, Max, Min, Best}
-use Rattle.gta_checked.specs.Plain.{PlainCase, PlainPick, PlainTest, Sum, Length, Fold, PlainChecked}
+use Rattle.monoid_kit.specs.Table.{IsLawfulTable}
+use Rattle.gta_checked.specs.Plain.{NamedTable, PlainCase, PlainPick, PlainTest, Sum, Length, Fold, PlainChecked}
+use Rattle.gta_checked.specs.Tables.{table_at}
 
 -- a declared column has a factor, and a number is one that a specification can have
 abbrev pub IsFactorWithin : ℕ → ℤ → Option ℕ → Type 0
@@ -41,15 +43,31 @@ abbrev pub IsCheckWithin : Check → Type 0
 IsCheckWithin (Compare cmp number) = (pos 0 ≤ℤ number) × (number ≤ℤ pos BOUND_LIMIT)
 IsCheckWithin (Mod modulus residue) = (modulus ≤ MODULUS_LIMIT) × (residue < modulus)
 
-abbrev pub IsPickWithin : ℕ → ℕ → PlainPick → Type 0
-IsPickWithin columns labels pick = (pick.element < ELEMENT_LIMIT) × IsConditionWithin columns labels pick.cond
+-- as many names as the lawful table has elements
+pub record IsTableWithin (table : NamedTable) : Type 0 where
+  pub named : length table.elements ≡ table.products.size
+  pub lawful : IsLawfulTable table.products
 
-abbrev pub IsTestWithin : ℕ → ℕ → ℕ → PlainTest → Type 0
-IsTestWithin columns labels measures (Sum measure check) = (measure < measures) × IsCheckWithin check
-IsTestWithin columns labels measures (Length check) = IsCheckWithin check
-IsTestWithin columns labels measures (Fold table picks accept) =
-    (table < TABLE_LIMIT) × (length picks ≤ CASE_LIMIT) × All (IsPickWithin columns labels) picks
-    × All (λ element. element < ELEMENT_LIMIT) accept
+-- a table's number, and how many elements it has
+abbrev pub table_size : List NamedTable → ℕ → ℕ
+table_size tables table = (table_at tables table).products.size
+
+abbrev pub IsPickWithin : ℕ → ℕ → ℕ → PlainPick → Type 0
+IsPickWithin columns labels size pick = (pick.element < size) × IsConditionWithin columns labels pick.cond
+
+-- the elements of a fold are those of its table
+pub record IsFoldWithin (columns labels : ℕ) (tables : List NamedTable) (table : ℕ) (picks : List PlainPick)
+    (accept : List ℕ) : Type 0 where
+  pub declared : table < length tables
+  pub few_picks : length picks ≤ CASE_LIMIT
+  pub each_pick : All (IsPickWithin columns labels (table_size tables table)) picks
+  pub accepted : All (λ element. element < table_size tables table) accept
+
+abbrev pub IsTestWithin : ℕ → ℕ → ℕ → List NamedTable → PlainTest → Type 0
+IsTestWithin columns labels measures tables (Sum measure check) = (measure < measures) × IsCheckWithin check
+IsTestWithin columns labels measures tables (Length check) = IsCheckWithin check
+IsTestWithin columns labels measures tables (Fold table picks accept) =
+    IsFoldWithin columns labels tables table picks accept
 
 abbrev pub IsGoalWithin : ℕ → Goal → Type 0
 IsGoalWithin measures Count = Unit {0}
@@ -65,6 +83,9 @@ pub record IsWithinLimits (checked : PlainChecked) : Type 0 where
   pub assigned : (checked.shape ≡ Assign) ↔ (1 ≤ length checked.labels)
   pub few_measures : length checked.measures ≤ length checked.columns + MEASURE_LIMIT
   pub measures : All (IsMeasureWithin (length checked.columns) (length checked.labels)) checked.measures
+  pub few_tables : length checked.tables ≤ TABLE_LIMIT
+  pub tables : All IsTableWithin checked.tables
   pub few_tests : length checked.tests ≤ TEST_LIMIT
-  pub tests : All (IsTestWithin (length checked.columns) (length checked.labels) (length checked.measures)) checked.tests
+  pub tests : All (IsTestWithin (length checked.columns) (length checked.labels) (length checked.measures)
+      checked.tables) checked.tests
   pub goal : IsGoalWithin (length checked.measures) checked.goal

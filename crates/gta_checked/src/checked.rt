@@ -1,22 +1,23 @@
 //! A checked specification. What contracts see of it is in specs/Plain.antt, its limits are in specs/Within.antt.
 
 ghost use Rattle.std.specs.Prelude.{◌≡◌, map};
-ghost use Rattle.gta_checked.specs.Plain.{plain_checked, plain_measure, plain_test};
+ghost use Rattle.gta_checked.specs.Plain.{plain_checked, plain_measure, plain_named, plain_test};
 ghost use Rattle.gta_checked.specs.Within.{IsWithinLimits};
 
-use crate::resolved::{Goal, Measure, Test};
+use crate::resolved::{Goal, Measure, Table, Test};
 use gta_spec::ColumnItem;
 use gta_text::Name;
 use shape_gen::Shape;
 use std::marker::Model;
 
 /// A specification whose names are resolved to numbers. It keeps the limits of the language.
-#[derive(Debug, Drop)]
+#[derive(Drop)]
 pub struct Checked {
     version: u8,
     columns: Vec<ColumnItem>,
     labels: Vec<Name>,
     measures: Vec<Measure>,
+    tables: Vec<Table>,
     tests: Vec<Test>,
     shape: Shape,
     goal: Goal,
@@ -28,10 +29,11 @@ impl Model for Checked {
 
     ghost Value = { PlainChecked };
 
-    ghost view = { λ c. plain_checked c.version c.columns.items c.labels.items c.measures.items c.tests.items c.shape c.goal };
+    ghost view = { λ c. plain_checked c.version c.columns.items c.labels.items c.measures.items
+        c.tables.items c.tests.items c.shape c.goal };
 
-    ghost invariant = { λ c. IsWithinLimits
-        (plain_checked c.version c.columns.items c.labels.items c.measures.items c.tests.items c.shape c.goal) };
+    ghost invariant = { λ c. IsWithinLimits (plain_checked c.version c.columns.items c.labels.items
+        c.measures.items c.tables.items c.tests.items c.shape c.goal) };
 }
 
 /// Each reader lends its part, and takes no memory.
@@ -42,19 +44,22 @@ impl Checked {
         columns: Vec<ColumnItem>,
         labels: Vec<Name>,
         measures: Vec<Measure>,
+        tables: Vec<Table>,
         tests: Vec<Test>,
         shape: Shape,
         goal: Goal,
     ) -> Checked
-        requires within { IsWithinLimits
-            (plain_checked version columns.items labels.items measures.items tests.items shape goal) }
-        ensures { result ≡ plain_checked version columns.items labels.items measures.items tests.items shape goal }
+        requires within { IsWithinLimits (plain_checked version columns.items labels.items
+            measures.items tables.items tests.items shape goal) }
+        ensures { result ≡ plain_checked version columns.items labels.items
+            measures.items tables.items tests.items shape goal }
     {
         Checked {
             version,
             columns,
             labels,
             measures,
+            tables,
             tests,
             shape,
             goal,
@@ -90,6 +95,14 @@ impl Checked {
         ensures within { IsWithinLimits self.now }
     {
         &self.measures
+    }
+
+    /// The tables, in the order of their lines.
+    pub fn tables(&self) -> &Vec<Table>
+        ensures tables { map plain_named result.now.items ≡ self.now.tables }
+        ensures within { IsWithinLimits self.now }
+    {
+        &self.tables
     }
 
     /// The tests, in the order of their lines.

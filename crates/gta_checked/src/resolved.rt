@@ -2,6 +2,8 @@
 //! declared order from 0; the measures are the columns, followed by the declared measures.
 
 use gta_spec::{Check, Cmp};
+use gta_text::Name;
+use monoid_kit::TableMonoid;
 
 /// A number, or a factor times a column.
 #[derive(Clone, Copy, PartialEq, Eq, Debug)]
@@ -35,6 +37,14 @@ pub struct Measure {
 pub struct Pick {
     pub element: u32,
     pub cond: Vec<Atom>,
+}
+
+/// A table of products: the names of its elements, and the monoid on their numbers.
+#[derive(Drop)]
+pub struct Table {
+    pub name: Name,
+    pub elements: Vec<Name>,
+    pub monoid: TableMonoid,
 }
 
 /// What a candidate must pass.

@@ -1,24 +1,17 @@
 //! From words and a source to a text, or why there is none. Nothing is written here.
 //! specs/Endings.antt says when each ending comes.
 
-ghost use Rattle.std.specs.Prelude.{◌≡◌, ◌≤◌, map, string_bytes, IfOk, IfErr, OnOk, IsErrOf};
-ghost use Rattle.std.specs.Io.KnownBytes.{IsAtEnd};
+ghost use Rattle.std.specs.Prelude.{◌≡◌, ◌≤◌, Some, map, string_bytes, IfOk, IfErr, IfSome, OnOk, IsErrOf};
 ghost use Rattle.gta_port.specs.Port.{Rose};
-ghost use Rattle.gta_words.specs.Words.{command_of};
-ghost use Rattle.gta_cli.specs.Endings.{IsText, Explains};
+ghost use Rattle.gta_words.specs.Words.{IsWithinOptions, command_of};
+ghost use Rattle.gta_cli.specs.Endings.{IsText, IsDrill, IsReadBy, Explains};
 
-use gta_job::{INPUT_LIMIT, JobEnd, answer_job, show_job};
+use gta_job::{INPUT_LIMIT, JobEnd, answer_job, drill_job, list_job, show_job};
 use gta_port::{ReadEnd, Source, read_all};
-use gta_words::{Command, read_words};
+use gta_words::{Command, WordsFault, read_words};
 use report_text::Refusal;
 use std::alloc::Global;
 use std::thread::Threads;
-
-/// How many workers a run has where the words don't say.
-const WORKERS: u32 = 4;
-
-/// How many rows a leaf has where the words don't say.
-const LEAF: u32 = 64;
 
 /// Why there is no text.
 #[derive(Debug, Drop)]
@@ -31,6 +24,19 @@ pub enum Ending {
     ReadFault,
     /// Memory was wanting.
     Memory,
+}
+
+impl From<WordsFault> for Ending {
+    ghost use Rattle.gta_cli.specs.Endings.{ending_of_words};
+
+    ghost from_gives = { λ fault ending. ending ≡ ending_of_words fault };
+
+    fn from(fault: WordsFault) -> Ending {
+        match fault {
+            WordsFault::Usage => Ending::Usage,
+            WordsFault::Memory => Ending::Memory,
+        }
+    }
 }
 
 impl From<ReadEnd> for Ending {
@@ -67,19 +73,55 @@ pub(crate) fn answer<R: Threads + Sync, S: Source>(
     words: &[String],
     source: &mut S,
 ) -> Result<Vec<u8>, Ending>
-    ensures text { IfOk result (λ text. IsText (command_of (map string_bytes words.now)) (S.left source.old) text.items) }
-    ensures end { OnOk result (IsAtEnd (S.left source.new)) }
+    ensures text { IfOk result (λ text.
+        IsText (command_of (map string_bytes words.now)) (S.left source.old) text.items) }
+    ensures end { OnOk result (IfSome (command_of (map string_bytes words.now)) (λ command.
+        IsReadBy command (S.left source.new))) }
+    ensures drilled { IfSome (command_of (map string_bytes words.now)) (λ command.
+        IsDrill command → source.new ≡ source.old) }
     ensures steady { OnOk result (S.faults source.new ≡ S.faults source.old) }
     ensures cause { IfErr result (Explains (command_of (map string_bytes words.now)) (S.left source.old)
         (Rose (S.faults source.old) (S.faults source.new)) (S.faults source.new ≡ S.faults source.old)) }
     ensures unread { IsErrOf result Ending.Usage → source.new ≡ source.old }
 {
-    let Some(command) = read_words(words) else {
-        return Err(Ending::Usage);
-    };
-    let bytes = read_all(alloc, source, INPUT_LIMIT)?;
+    let command = read_words(alloc, words)?;
+    text_by(rt, alloc, command, source)
+}
+
+/// The text of a command, over the bytes of the source where it reads them.
+fn text_by<R: Threads + Sync, S: Source>(
+    rt: &R,
+    alloc: Global,
+    command: Command,
+    source: &mut S,
+) -> Result<Vec<u8>, Ending>
+    requires within { IsWithinOptions command }
+    ensures text { IfOk result (λ text. IsText (Some command) (S.left source.old) text.items) }
+    ensures end { OnOk result (IsReadBy command (S.left source.new)) }
+    ensures drilled { IsDrill command → source.new ≡ source.old }
+    ensures steady { OnOk result (S.faults source.new ≡ S.faults source.old) }
+    ensures cause { IfErr result (Explains (Some command) (S.left source.old)
+        (Rose (S.faults source.old) (S.faults source.new)) (S.faults source.new ≡ S.faults source.old)) }
+    ensures command { IsErrOf result Ending.Usage → ⊥ }
+{
     match command {
-        Command::Run => Ok(answer_job(rt, alloc, bytes.as_slice(), WORKERS, LEAF)?),
-        Command::Show => Ok(show_job(alloc, bytes.as_slice())?),
+        Command::Run { workers, leaf } => {
+            let bytes = read_all(alloc, source, INPUT_LIMIT)?;
+            Ok(answer_job(rt, alloc, bytes.as_slice(), workers, leaf)?)
+        }
+        Command::Show => {
+            let spec = read_all(alloc, source, INPUT_LIMIT)?;
+            Ok(show_job(alloc, spec.as_slice())?)
+        }
+        Command::List => {
+            let job = read_all(alloc, source, INPUT_LIMIT)?;
+            Ok(list_job(alloc, job.as_slice())?)
+        }
+        Command::Drill {
+            seed,
+            rows,
+            workers,
+            leaf,
+        } => Ok(drill_job(rt, alloc, seed, rows, workers, leaf)?),
     }
 }

@@ -1,11 +1,20 @@
 //! The worked examples over the top call: what is printed and where, limits of the input, and faults at each call.
-//! tests/specs.rt has those of specifications: refusals in their order, limits, and `show`.
+//! tests/specs.rt has those of specifications, with `show`; tests/table.rt those of tables, tests/shapes.rt those of
+//! what is generated, tests/answers.rt and tests/folds.rt those of tests and aggregates, tests/best.rt those of the
+//! best candidates, and tests/commands.rt those of the other commands.
 
+mod answers;
+mod best;
+mod commands;
+mod folds;
+mod shapes;
 mod specs;
+mod table;
 
 use super::top::gta_main;
 use gta_port::{MemorySink, MemorySource};
 use std::alloc::Global;
+use std::process::Abort;
 use std::test::Fail;
 use std::thread::Threads;
 
@@ -81,157 +90,75 @@ fn with_head(alloc: Global, cells: &[u8]) -> Result<Vec<u8>, Fail> {
     Ok(input)
 }
 
-#[test]
-fn cells_of_the_small_form(rt: HostRuntime) -> Result<(), Fail> {
-    let unbuilt: &[u8] = b"refused 1: not built yet\n";
-    let cases: [(&[u8], u8, &[u8], &[u8]); 13] = [
-        (b"3\n-1\n4\n", 0, b"answer 7\n", b""),
-        (b"", 0, b"answer 0\n", b""),
-        (b"-3\n-1\n", 0, b"answer 0\n", b""),
-        (
-            b"4611686018427387903\n",
-            0,
-            b"answer 4611686018427387903\n",
-            b"",
-        ),
-        (
-            b"4611686018427387903\n1\n",
-            1,
-            b"",
-            b"refused 41: row 2: weight total past 4611686018427387903\n",
-        ),
-        (
-            b"-4611686018427387903\n0\n-1\n5\n",
-            1,
-            b"",
-            b"refused 41: row 3: weight total past 4611686018427387903\n",
-        ),
-        (b"+5\n-0\n007\n", 0, b"answer 12\n", b""),
-        (b"5 \n", 1, b"", unbuilt),
-        (b"5\n\n", 1, b"", unbuilt),
-        (b"5\r\n", 1, b"", unbuilt),
-        (b"5\n6", 1, b"", unbuilt),
-        (b"4611686018427387904\n", 1, b"", unbuilt),
-        (b"+\n", 1, b"", unbuilt),
-    ];
-    for (cells, status, out, err) in cases {
-        let input = with_head(rt.alloc(), cells)?;
-        let ended = called(&rt, rt.alloc(), &["run"], input.as_slice(), SMOOTH)?;
-        assert_eq!(rt; ended.status, status, "status at {cells:?}");
-        assert_eq!(rt; ended.out.as_slice(), out, "output at {cells:?}");
-        assert_eq!(rt; ended.err.as_slice(), err, "error output at {cells:?}");
-    }
-    Ok(())
-}
-
-// The line of a test, the cells, and what is printed where.
-#[test]
-fn sums_under_a_bound(rt: HostRuntime) -> Result<(), Fail> {
-    let negative: &[u8] = b"refused 40: test 1, row 1: value -3 is negative\n";
-    let unbuilt: &[u8] = b"refused 1: not built yet\n";
-    let past: &[u8] = b"refused 25: line 4: limit bound\n";
-    let unknown: &[u8] = b"refused 20: line 4: unknown name w\n";
-    let cases: [(&[u8], &[u8], &[u8], &[u8]); 11] = [
-        (b"test sum v <= 5\n", b"3\n4\n2\n", b"answer 5\n", b""),
-        (b"test sum v <= 0\n", b"0\n1\n", b"answer 0\n", b""),
-        (b"test sum v <= 7\n", b"3\n4\n2\n", b"answer 7\n", b""),
-        (b"test sum v <= 8\n", b"3\n4\n2\n", b"answer 7\n", b""),
-        (b"test sum v <= 5\n", b"", b"answer 0\n", b""),
-        (
-            b"test sum v <= 8190\n",
-            b"8191\n8190\n",
-            b"answer 8190\n",
-            b"",
-        ),
-        (b"test sum v <= 5\n", b"-3\n", b"", negative),
-        (b"test sum v <= 8191\n", b"1\n", b"", past),
-        (b"  test sum v<=00005 # \n", b"1\n", b"answer 1\n", b""),
-        (b"test sum w <= 5\n", b"1\n", b"", unknown),
-        (b"test sum v >= 5\n", b"1\n", b"", unbuilt),
-    ];
-    for (test, cells, out, err) in cases {
-        let mut input = Vec::from_slice(rt.alloc(), b"gta 1\ncolumns v\ngenerate sublists\n")?;
-        input.extend_from_slice(test)?;
-        input.extend_from_slice(b"aggregate max v\nrows\nv\n")?;
-        input.extend_from_slice(cells)?;
-        let ended = called(&rt, rt.alloc(), &["run"], input.as_slice(), SMOOTH)?;
-        assert_eq!(rt; ended.out.as_slice(), out, "output at {test:?} {cells:?}");
-        assert_eq!(rt;
-            ended.err.as_slice(),
-            err,
-            "error output at {test:?} {cells:?}"
-        );
-    }
-    Ok(())
-}
-
-// An input, and what is printed where: jobs that aren't built, and other spellings of one that is.
-#[test]
-fn spellings_and_other_forms(rt: HostRuntime) -> Result<(), Fail> {
-    let unbuilt: &[u8] = b"refused 1: not built yet\n";
-    let cases: [(&[u8], &[u8], &[u8]); 11] = [
-        (
-            b"gta 1\ncolumns v\ngenerate sublists\naggregate count\nrows\nv\n1\n",
-            b"",
-            unbuilt,
-        ),
-        (
-            b"gta 1\ncolumns v\ngenerate segments\naggregate max v\nrows\nv\n1\n",
-            b"",
-            unbuilt,
-        ),
-        (
-            b"gta 1\ncolumns v w\ngenerate sublists\naggregate max v\nrows\nv\n1\n",
-            b"",
-            unbuilt,
-        ),
-        (
-            b"gta 1\ncolumns v=\"v\"\ngenerate sublists\naggregate max v\nrows\nv\n1\n",
-            b"",
-            unbuilt,
-        ),
-        (
-            b"gta 1\ncolumns v\nmeasure m = v\ngenerate sublists\naggregate max v\nrows\nv\n1\n",
-            b"",
-            unbuilt,
-        ),
-        (
-            b"gta 1\ncolumns v\ngenerate sublists\naggregate max v\nrows\nw\n1\n",
-            b"",
-            unbuilt,
-        ),
-        (
-            b"gta 1\ncolumns v\ngenerate sublists\naggregate max v\nrows",
-            b"",
-            unbuilt,
-        ),
-        (
-            b"gta 1\naggregate max v\ncolumns v\ngenerate sublists\nrows\nv\n2\n",
-            b"answer 2\n",
-            b"",
-        ),
-        (
-            b"\xef\xbb\xbf# a job\n\n gta\t1\r\ncolumns  v#c\ngenerate sublists\naggregate max v\n rows # t\nv\n-1\n3\n",
-            b"answer 3\n",
-            b"",
-        ),
-        (
-            b"gta 1\ncolumns v\ngenerate sublists\naggregate max v\nrows \xc3\x00#\nv\n",
-            b"",
-            b"refused 10: line 5, byte 6: not printable ASCII\n",
-        ),
-        (
-            b"gta 1\ncolumns v\ngenerate sublists\naggregate max v\nrows # \xc3\x00\nv\n5\n",
-            b"answer 5\n",
-            b"",
-        ),
-    ];
+/// What a run of each input prints to the output and to the error output. It ends with status 0 where
+/// nothing is on the error output, and else with status 1.
+fn assert_runs<R: Threads + Abort + Sync>(
+    rt: &R,
+    alloc: Global,
+    cases: &[(&[u8], &[u8], &[u8])],
+) -> Result<(), Fail> {
     for (input, out, err) in cases {
-        let ended = called(&rt, rt.alloc(), &["run"], input, SMOOTH)?;
-        assert_eq!(rt; ended.out.as_slice(), out, "output at {input:?}");
-        assert_eq!(rt; ended.err.as_slice(), err, "error output at {input:?}");
+        let ended = called(rt, alloc, &["run"], input, SMOOTH)?;
+        let status = if err.is_empty() { 0 } else { 1 };
+        assert_eq!(rt; ended.out.as_slice(), *out, "output at {input:?}");
+        assert_eq!(rt; ended.err.as_slice(), *err, "error output at {input:?}");
+        assert_eq!(rt; ended.status, status, "status at {input:?}");
     }
     Ok(())
+}
+
+/// A job over a column v, from the lines that it has besides and the lines of its cells.
+fn job_of(alloc: Global, lines: &[u8], cells: &[u8]) -> Result<Vec<u8>, Fail> {
+    let mut input = Vec::from_slice(alloc, b"gta 1\ncolumns v\n")?;
+    input.extend_from_slice(lines)?;
+    input.extend_from_slice(b"rows\nv\n")?;
+    input.extend_from_slice(cells)?;
+    Ok(input)
+}
+
+/// The same for such jobs.
+fn assert_jobs<R: Threads + Abort + Sync>(
+    rt: &R,
+    alloc: Global,
+    cases: &[(&[u8], &[u8], &[u8], &[u8])],
+) -> Result<(), Fail> {
+    for (lines, cells, out, err) in cases {
+        let input = job_of(alloc, lines, cells)?;
+        assert_runs(rt, alloc, &[(input.as_slice(), *out, *err)])?;
+    }
+    Ok(())
+}
+
+// An input, and what is printed where: other spellings of a job, and bytes that no specification has.
+#[test]
+fn spellings(rt: HostRuntime) -> Result<(), Fail> {
+    assert_runs(
+        &rt,
+        rt.alloc(),
+        &[
+            (
+                b"gta 1\naggregate max v\ncolumns v\ngenerate sublists\nrows\nv\n2\n",
+                b"answer 2\n",
+                b"",
+            ),
+            (
+                b"\xef\xbb\xbf# a job\n\n gta\t1\r\ncolumns  v#c\ngenerate sublists\n\
+                  aggregate max v\n rows # t\nv\n-1\n3\n",
+                b"answer 3\n",
+                b"",
+            ),
+            (
+                b"gta 1\ncolumns v\ngenerate sublists\naggregate max v\nrows \xc3\x00#\nv\n",
+                b"",
+                b"refused 10: line 5, byte 6: not printable ASCII\n",
+            ),
+            (
+                b"gta 1\ncolumns v\ngenerate sublists\naggregate max v\nrows # \xc3\x00\nv\n5\n",
+                b"answer 5\n",
+                b"",
+            ),
+        ],
+    )
 }
 
 #[test]
@@ -249,25 +176,6 @@ fn words_that_are_no_command(rt: HostRuntime) -> Result<(), Fail> {
         assert_eq!(rt; ended.status, 2, "status at {texts:?}");
         assert_eq!(rt; ended.out.len(), 0, "output at {texts:?}");
         assert_eq!(rt; ended.err.as_slice(), USAGE, "error output at {texts:?}");
-    }
-    Ok(())
-}
-
-// The number of cells, each a 1 on a line of its own.
-#[test]
-fn the_most_rows(rt: HostRuntime) -> Result<(), Fail> {
-    let cases: [(u32, &[u8], &[u8]); 2] = [
-        (100_000, b"answer 100000\n", b""),
-        (100_001, b"", b"refused 1: not built yet\n"),
-    ];
-    for (count, out, err) in cases {
-        let mut input = Vec::from_slice(rt.alloc(), HEAD)?;
-        for _ in 0..count {
-            input.extend_from_slice(b"1\n")?;
-        }
-        let ended = called(&rt, rt.alloc(), &["run"], input.as_slice(), SMOOTH)?;
-        assert_eq!(rt; ended.out.as_slice(), out, "output at {count}");
-        assert_eq!(rt; ended.err.as_slice(), err, "error output at {count}");
     }
     Ok(())
 }

@@ -5,12 +5,12 @@
 
 ghost use Rattle.std.specs.Prelude.{◌≡◌, ◌⊎◌, ◌≤◌, None, Some, map, string_bytes, IfSome, IsSome};
 ghost use Rattle.std.specs.Option.{IsSomeAnd};
-ghost use Rattle.std.specs.Io.KnownBytes.{Appends, Keeps, IsAtEnd};
+ghost use Rattle.std.specs.Io.KnownBytes.{Appends, Keeps};
 ghost use Rattle.gta_port.specs.Port.{GainsFront, Rose};
 ghost use Rattle.gta_words.specs.Words.{command_of};
 ghost use Rattle.gta_job.specs.Jobs.{refusal_of, text_of};
 ghost use Rattle.report_text.specs.Texts.{fault_text};
-ghost use Rattle.gta_cli.specs.Endings.{Says};
+ghost use Rattle.gta_cli.specs.Endings.{Says, input_of, IsDrill, IsReadBy};
 ghost use Rattle.gta_cli.specs.Lines.{usage_line, read_fault_line, write_fault_line, out_of_memory_line};
 
 use crate::ending::{Ending, answer};
@@ -55,16 +55,21 @@ pub fn gta_main<R: Threads + Sync, S: Source, O: Sink, E: Sink>(
 
     // Answered: the text of an accepted command went out, and nothing else.
     ensures answered { result ≡ ANSWERED → IsSomeAnd (command_of (map string_bytes words.now)) (λ command.
-        IfSome (S.left source.old) (λ bytes.
+        IfSome (input_of command (S.left source.old)) (λ bytes.
         (refusal_of command bytes ≡ None) × Appends (O.gone out.old) (O.gone out.new) (text_of command bytes))) }
-    ensures read_whole { result ≡ ANSWERED → IsAtEnd (S.left source.new) }
+    ensures read_whole { result ≡ ANSWERED → IfSome (command_of (map string_bytes words.now)) (λ command.
+        IsReadBy command (S.left source.new)) }
     ensures nothing_said { result ≡ ANSWERED → err.new ≡ err.old }
 
     // Refused: the fault line of the command's refusal on these bytes went out.
     ensures refused { result ≡ REFUSED → IsSomeAnd (command_of (map string_bytes words.now)) (λ command.
-        IfSome (S.left source.old) (λ bytes. IsSomeAnd (refusal_of command bytes) (λ refusal.
+        IfSome (input_of command (S.left source.old)) (λ bytes. IsSomeAnd (refusal_of command bytes) (λ refusal.
         Appends (E.gone err.old) (E.gone err.new) (fault_text refusal)))) }
     ensures no_read_failed { (result ≡ ANSWERED) ⊎ (result ≡ REFUSED) → S.faults source.new ≡ S.faults source.old }
+
+    // A drill reads nothing, whatever the status.
+    ensures drill_reads_nothing { IfSome (command_of (map string_bytes words.now)) (λ command.
+        IsDrill command → source.new ≡ source.old) }
 
     // Usage: the words are no command, and nothing was read.
     ensures usage { result ≡ USAGE → (command_of (map string_bytes words.now) ≡ None) × (source.new ≡ source.old)
@@ -75,29 +80,35 @@ pub fn gta_main<R: Threads + Sync, S: Source, O: Sink, E: Sink>(
         IsSome (command_of (map string_bytes words.now)) × Rose (S.faults source.old) (S.faults source.new) }
 
     // Write fault: what was due, and whose count of faults rose.
-    ensures write_failed { result ≡ WRITE_FAULT → Rose (O.faults out.old) (O.faults out.new) ⊎ Rose (E.faults err.old) (E.faults err.new) }
+    ensures write_failed { result ≡ WRITE_FAULT →
+        Rose (O.faults out.old) (O.faults out.new) ⊎ Rose (E.faults err.old) (E.faults err.new) }
     ensures answer_cut { result ≡ WRITE_FAULT → IfSome (command_of (map string_bytes words.now)) (λ command.
-        IfSome (S.left source.old) (λ bytes. refusal_of command bytes ≡ None →
-        Rose (O.faults out.old) (O.faults out.new) × GainsFront (O.gone out.old) (O.gone out.new) (text_of command bytes))) }
+        IfSome (input_of command (S.left source.old)) (λ bytes. refusal_of command bytes ≡ None →
+        Rose (O.faults out.old) (O.faults out.new)
+        × GainsFront (O.gone out.old) (O.gone out.new) (text_of command bytes))) }
     ensures refusal_cut { result ≡ WRITE_FAULT → IfSome (command_of (map string_bytes words.now)) (λ command.
-        IfSome (S.left source.old) (λ bytes. IfSome (refusal_of command bytes) (λ refusal.
+        IfSome (input_of command (S.left source.old)) (λ bytes. IfSome (refusal_of command bytes) (λ refusal.
         Rose (E.faults err.old) (E.faults err.new) × (out.new ≡ out.old)
         × GainsFront (E.gone err.old) (E.gone err.new) (fault_text refusal)))) }
     ensures usage_cut { result ≡ WRITE_FAULT → command_of (map string_bytes words.now) ≡ None →
-        Rose (E.faults err.old) (E.faults err.new) × (out.new ≡ out.old) × GainsFront (E.gone err.old) (E.gone err.new) usage_line }
+        Rose (E.faults err.old) (E.faults err.new) × (out.new ≡ out.old)
+        × GainsFront (E.gone err.old) (E.gone err.new) usage_line }
 
     // Wherever no text was written the output is as it was, its count of faults too.
     ensures untouched { (result ≡ ANSWERED → ⊥) → (result ≡ WRITE_FAULT → ⊥) → out.new ≡ out.old }
 
     // Completeness: with no fault an accepted command is answered, a refused one refused, and other words
     // get the usage line; or memory was wanting.
-    ensures completes { IfSome (command_of (map string_bytes words.now)) (λ command. IfSome (S.left source.old) (λ bytes.
+    ensures completes { IfSome (command_of (map string_bytes words.now)) (λ command.
+        IfSome (input_of command (S.left source.old)) (λ bytes.
         refusal_of command bytes ≡ None → ¬ Rose (S.faults source.old) (S.faults source.new)
         → ¬ Rose (O.faults out.old) (O.faults out.new) → (result ≡ ANSWERED) ⊎ (result ≡ NO_MEMORY))) }
-    ensures refuses { IfSome (command_of (map string_bytes words.now)) (λ command. IfSome (S.left source.old) (λ bytes.
+    ensures refuses { IfSome (command_of (map string_bytes words.now)) (λ command.
+        IfSome (input_of command (S.left source.old)) (λ bytes.
         IsSome (refusal_of command bytes) → ¬ Rose (S.faults source.old) (S.faults source.new)
         → ¬ Rose (E.faults err.old) (E.faults err.new) → (result ≡ REFUSED) ⊎ (result ≡ NO_MEMORY))) }
-    ensures explains_usage { command_of (map string_bytes words.now) ≡ None → ¬ Rose (E.faults err.old) (E.faults err.new)
+    ensures explains_usage { command_of (map string_bytes words.now) ≡ None
+        → ¬ Rose (E.faults err.old) (E.faults err.new)
         → (result ≡ USAGE) ⊎ (result ≡ NO_MEMORY) }
 
     // What the error output gained at a fault: the line, or a front of it where a write of it failed too.
@@ -106,7 +117,7 @@ pub fn gta_main<R: Threads + Sync, S: Source, O: Sink, E: Sink>(
     ensures memory_said { result ≡ NO_MEMORY →
         Says (E.gone err.old) (E.gone err.new) out_of_memory_line (Rose (E.faults err.old) (E.faults err.new)) }
     ensures write_fault_said { result ≡ WRITE_FAULT → IfSome (command_of (map string_bytes words.now)) (λ command.
-        IfSome (S.left source.old) (λ bytes. refusal_of command bytes ≡ None →
+        IfSome (input_of command (S.left source.old)) (λ bytes. refusal_of command bytes ≡ None →
         Says (E.gone err.old) (E.gone err.new) write_fault_line (Rose (E.faults err.old) (E.faults err.new)))) }
 {
     match answer(rt, alloc, words, source) {
@@ -133,7 +144,8 @@ pub fn gta_main<R: Threads + Sync, S: Source, O: Sink, E: Sink>(
 /// Says that memory was wanting, and gives the status of it. It takes no memory.
 pub(crate) fn out_of_memory<E: Sink>(err: &mut E) -> u8
     ensures status { result ≡ NO_MEMORY }
-    ensures said { Says (E.gone err.old) (E.gone err.new) out_of_memory_line (Rose (E.faults err.old) (E.faults err.new)) }
+    ensures said {
+        Says (E.gone err.old) (E.gone err.new) out_of_memory_line (Rose (E.faults err.old) (E.faults err.new)) }
     ensures counts { E.faults err.old ≤ E.faults err.new }
 {
     say(err, OUT_OF_MEMORY_LINE);

@@ -1,5 +1,5 @@
-pub mod Cases
-pub mod Tables
-pub mod Greatest
-pub mod Heavy
-pub mod Within
+pub mod Records
+pub mod Bounds
+pub mod Ordered
+pub mod Labelled
+pub mod Listed

@@ -1,9 +1,11 @@
--- The refusals that a specification's faults are told by.
+-- The refusals that faults are told by.
 use Rattle.std.specs.Prelude.{◌≡◌, Option, Some, None}
 use Rattle.gta_syntax.specs.declared.fault.SpecFault.{SpecFault}
 use Rattle.gta_syntax.specs.declared.fault.SpecFault.TheVariants as reading
 use Rattle.gta_types.specs.declared.fault.CheckFault.{CheckFault}
 use Rattle.gta_types.specs.declared.fault.CheckFault.TheVariants as checking
+use Rattle.gta_rows.specs.declared.fault.RowsFault.{RowsFault}
+use Rattle.gta_rows.specs.declared.fault.RowsFault.TheVariants as table
 use Rattle.report_text.specs.declared.refusal.Refusal.{Refusal}
 use Rattle.report_text.specs.declared.refusal.Refusal.TheVariants as refusals
 use Rattle.gta_job.specs.declared.job.JobEnd.{JobEnd}
@@ -26,8 +28,20 @@ end_of_checking (checking.Missing part) = Refused (refusals.Missing part)
 end_of_checking (checking.SecondPart line part) = Refused (refusals.SecondPart line part)
 end_of_checking (checking.LabelsAssign line assign) = Refused (refusals.LabelsAssign line assign)
 end_of_checking (checking.Limit line limit) = Refused (refusals.Limit line limit)
-end_of_checking checking.Unbuilt = Refused refusals.Unbuilt
+end_of_checking (checking.UnitFails table element left) = Refused (refusals.UnitFails table element left)
+end_of_checking (checking.NotAssociative table a b c) = Refused (refusals.NotAssociative table a b c)
+end_of_checking (checking.NotSquare table element) = Refused (refusals.NotSquare table element)
 end_of_checking checking.Memory = Memory
+
+-- what a fault of the table ends a job with
+abbrev pub end_of_table : RowsFault → JobEnd
+end_of_table table.NoHeader = Refused refusals.NoHeader
+end_of_table (table.Missing column) = Refused (refusals.ColumnMissing column)
+end_of_table (table.ColumnTwice column) = Refused (refusals.ColumnTwice column)
+end_of_table (table.Length row fields header) = Refused (refusals.Length row fields header)
+end_of_table (table.Field row column) = Refused (refusals.Field row column)
+end_of_table table.TooMany = Refused refusals.TooMany
+end_of_table table.Memory = Memory
 
 -- the refusal that a job ends with, where it ends with one
 abbrev pub refusal_in : JobEnd → Option Refusal

@@ -1,6 +1,5 @@
-pub mod SmallTable
-pub mod Form
-pub mod Answer
-pub mod Bounded
+pub mod Answers
+pub mod Sizes
 pub mod Ends
 pub mod Jobs
+pub mod Prepared

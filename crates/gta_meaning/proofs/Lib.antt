@@ -7,3 +7,5 @@ pub mod Ascending
 pub mod Weights
 pub mod InRange
 pub mod Generated
+pub mod Products
+pub mod ByNumber

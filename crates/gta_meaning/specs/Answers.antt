@@ -3,6 +3,9 @@ use Rattle.std.specs.Prelude.{ℕ, min, ℤ, Bool, nat_lt, List, [], ◌∷◌, 
 use Rattle.std.specs.Prelude.{Option, Some, None}
 use Rattle.std.specs.Int.{int_max, int_min}
 use Rattle.std.specs.List.{fold}
+use Rattle.shape_gen.specs.declared.mark.Mark.{Mark}
+use Rattle.witness_order.specs.Before.{before}
+use Rattle.witness_order.specs.Ranked.{first_of}
 use Rattle.gta_checked.specs.PlainRows.{PlainRows}
 use Rattle.gta_checked.specs.Plain.{PlainChecked}
 use Rattle.gta_meaning.specs.Values.{total}
@@ -41,3 +44,13 @@ greatest checked rows measure = greatest_of (totals checked rows measure)
 -- the least total of the candidates that pass, or none where none passes
 abbrev pub least : PlainChecked → PlainRows → ℕ → Option ℤ
 least checked rows measure = least_of (totals checked rows measure)
+
+-- a candidate with its total
+abbrev pub entry_of : PlainChecked → PlainRows → ℕ → List Mark → ℤ × List Mark
+entry_of checked rows measure candidate = (total checked rows measure candidate, candidate)
+
+-- the first k of the candidates that pass, or all where they are fewer, each with its total: those of better
+-- totals first, and among equal totals by shortlex
+abbrev pub best : PlainChecked → PlainRows → ℕ → Bool → ℕ → List (ℤ × List Mark)
+best checked rows k greatest measure =
+    first_of (before greatest) k (map (entry_of checked rows measure) (kept checked rows))

@@ -21,7 +21,8 @@ pub fn first_heavy(checked: &Checked, rows: &Rows) -> Option<u32>
     first_past(checked, rows, measure)
 }
 
-fn goal_measure(goal: Goal) -> Option<u32>
+/// The measure of an aggregate; None where it has none. Takes no memory.
+pub fn goal_measure(goal: Goal) -> Option<u32>
     ensures { result ≡ heavy.goal_measure goal }
 {
     match goal {

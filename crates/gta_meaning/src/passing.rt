@@ -1,16 +1,19 @@
 //! Whether a candidate passes the tests.
 
-ghost use Rattle.std.specs.Prelude.{◌≡◌, length};
-ghost use Rattle.gta_checked.specs.Plain.{plain_test};
-ghost use Rattle.gta_checked.specs.Within.{IsCheckWithin, IsTestWithin};
+ghost use Rattle.std.specs.Prelude.{◌≡◌, ◌<◌, All, length, map};
+ghost use Rattle.gta_checked.specs.Plain.{plain_pick, plain_test};
+ghost use Rattle.gta_checked.specs.Tables.{table_at};
+ghost use Rattle.gta_checked.specs.Within.{IsCheckWithin, IsPickWithin, IsTestWithin, table_size};
 ghost use Rattle.gta_checked.specs.PlainRows.{plain_rows};
 ghost use Rattle.gta_meaning.specs.InRange.{HasColumnsOf, IsInRangeOf};
+ghost use Rattle.gta_meaning.specs.Folds.{folded};
 ghost use Rattle.gta_meaning.specs.Tests as tests;
 
 use crate::candidate::Candidate;
+use crate::folds::folded;
 use crate::totals::weight_of;
 use crate::values::compares;
-use gta_checked::{Checked, Rows, Test};
+use gta_checked::{Checked, Pick, Rows, Test};
 use gta_spec::Check;
 
 /// Whether every test of the specification holds of the candidate. Takes no memory.
@@ -31,7 +34,7 @@ fn passes_test(checked: &Checked, rows: &Rows, candidate: &Candidate, test: &Tes
     requires columns { HasColumnsOf checked.now (plain_rows rows.now) }
     requires in_range { IsInRangeOf checked.now (plain_rows rows.now) candidate.now.marks.items }
     requires within { IsTestWithin (length checked.now.columns) (length checked.now.labels)
-        (length checked.now.measures) (plain_test test.now) }
+        (length checked.now.measures) checked.now.tables (plain_test test.now) }
     ensures { result
         ≡ tests.passes_test checked.now (plain_rows rows.now) candidate.now.marks.items (plain_test test.now) }
 {
@@ -40,9 +43,35 @@ fn passes_test(checked: &Checked, rows: &Rows, candidate: &Candidate, test: &Tes
             meets(*check, weight_of(checked, rows, *measure, candidate))
         }
         Test::Length { check } => meets(*check, candidate.marks.len() as i128),
-        // No specification has tables yet.
-        Test::Fold { .. } => false,
+        Test::Fold {
+            table,
+            picks,
+            accept,
+        } => accept.contains(&fold_product(checked, rows, candidate, *table, picks)),
     }
+}
+
+fn fold_product(
+    checked: &Checked,
+    rows: &Rows,
+    candidate: &Candidate,
+    table: u32,
+    picks: &[Pick],
+) -> u32
+    requires columns { HasColumnsOf checked.now (plain_rows rows.now) }
+    requires in_range { IsInRangeOf checked.now (plain_rows rows.now) candidate.now.marks.items }
+    requires declared { table < length checked.now.tables }
+    requires within { All (IsPickWithin (length checked.now.columns) (length checked.now.labels)
+        (table_size checked.now.tables table)) (map plain_pick picks.now) }
+    ensures { result ≡ folded (plain_rows rows.now) (table_at checked.now.tables table).products
+        (map plain_pick picks.now) candidate.now.marks.items }
+{
+    folded(
+        rows,
+        &checked.tables()[table as usize].monoid,
+        picks,
+        &candidate.marks,
+    )
 }
 
 fn meets(check: Check, total: i128) -> bool

@@ -2,7 +2,7 @@
 //! One specification serves all: a column v, labels A and B, and measures v, onA = v if label A,
 //! and steps = -3*v + 2 if v >= 1 ; 7.
 
-ghost use Rattle.std.specs.Prelude.{◌≡◌, ◌<◌, ◌≤◌, ◌^◌, All, IsTrue, IfOk, length};
+ghost use Rattle.std.specs.Prelude.{[], ◌≡◌, ◌<◌, ◌≤◌, ◌^◌, All, IsTrue, IfOk, length};
 ghost use Rattle.std.specs.List.{list_all};
 ghost use Rattle.gta_checked.specs.Cells.{is_cell};
 ghost use Rattle.gta_checked.specs.Plain.{plain_case, plain_measure, plain_test};
@@ -106,7 +106,7 @@ fn steps(alloc: Global) -> Result<Measure, AllocError>
 }
 
 fn spec_of(alloc: Global, test: Test, goal: Goal) -> Result<Checked, AllocError>
-    requires test { IsTestWithin 1 2 3 (plain_test test) }
+    requires test { IsTestWithin 1 2 3 [] (plain_test test) }
     requires goal { IsGoalWithin 3 goal }
     ensures columns { IfOk result (λ checked. length checked.columns ≡ 1) }
     ensures labels { IfOk result (λ checked. length checked.labels ≡ 2) }
@@ -126,7 +126,16 @@ fn spec_of(alloc: Global, test: Test, goal: Goal) -> Result<Checked, AllocError>
     measures.push(steps(alloc)?)?;
     let mut tests = Vec::new(alloc);
     tests.push(test)?;
-    Ok(Checked::of(1, columns, labels, measures, tests, Shape::Assign, goal))
+    Ok(Checked::of(
+        1,
+        columns,
+        labels,
+        measures,
+        Vec::new(alloc),
+        tests,
+        Shape::Assign,
+        goal,
+    ))
 }
 
 // The candidate of a code's bits, row by row from the lowest: 1 takes the row with the label A.

@@ -43,7 +43,7 @@ fn measure_value(rows: &Rows, measure: &Measure, row: u32, label: u32) -> i128
     0
 }
 
-fn holds(rows: &Rows, cond: &[Atom], row: u32, label: u32) -> bool
+pub(crate) fn holds(rows: &Rows, cond: &[Atom], row: u32, label: u32) -> bool
     requires within { (labels : ℕ) × All (IsAtomWithin rows.now.columns labels) cond.now }
     requires row_in_range { row < rows.now.count }
     ensures { result ≡ values.holds (plain_rows rows.now) row label cond.now }

@@ -32,6 +32,7 @@ fn with_columns(alloc: Global, columns: &[(&[u8], &[u8])]) -> Result<Option<Chec
         Vec::new(alloc),
         Vec::new(alloc),
         Vec::new(alloc),
+        Vec::new(alloc),
         Shape::Sublists,
         Goal::Count,
     )))

@@ -1,18 +1,16 @@
 -- A specification without a fault is within the limits once its names are resolved.
 use Rattle.std.proofs.Common.{◌≡◌, ℕ, ◌+◌, ◌<◌, ◌≤◌, Bool, true, false, ◌&&◌, ◌||◌, nat_lt, leb}
-use Rattle.std.proofs.Common.{List, [], ◌∷◌, ◌++◌, map, filter, length, get_or, Some, All, cond}
-use Rattle.std.proofs.Common.{refl, sym, ap, ◌∙◌, inl, inr, arith}
-use Rattle.std.specs.List.{find, list_any, flat_map, range_with_len}
+use Rattle.std.proofs.Common.{List, [], ◌∷◌, ◌++◌, map, filter, length, get_or, All, cond}
+use Rattle.std.proofs.Common.{refl, ◌∙◌, arith}
+use Rattle.std.specs.List.{flat_map, range_with_len}
 use Rattle.std.proofs.lemmas.List.{length-map, length-append}
 use Rattle.std.proofs.lemmas.List.FromFn.{length-range_with_len, get_or-range_with_len}
 use Rattle.std.proofs.lemmas.List.Elements.{All-nil, All-cons, All-append, All-map}
-use Rattle.std.proofs.lemmas.List.Folds.{find-append}
-use Rattle.std.proofs.lemmas.Bool.{false≢true, ltb-false, not-false}
-use Rattle.std.proofs.lemmas.Option.{none-some, same_Some}
-use Rattle.gta_spec.specs.declared.limits.TheConstants.{CASE_LIMIT, MEASURE_LIMIT, TEST_LIMIT, KEEP_LIMIT}
+use Rattle.std.proofs.lemmas.Bool.{ltb-false, not-false}
+use Rattle.gta_spec.specs.declared.limits.TheConstants.{CASE_LIMIT, ELEMENT_LIMIT, KEEP_LIMIT, MEASURE_LIMIT}
+use Rattle.gta_spec.specs.declared.limits.TheConstants.{TABLE_LIMIT, TEST_LIMIT}
 use Rattle.gta_spec.specs.declared.parts.GoalPart.{GoalPart}
 use Rattle.gta_spec.specs.declared.parts.GoalPart.TheVariants as goals
-use Rattle.gta_spec.specs.declared.parts.ColumnItem.{ColumnItem}
 use Rattle.gta_spec.specs.Parts.{Sum, Length, Fold, KindTree, Columns, Labels, Measure, Table}
 use Rattle.gta_spec.specs.Parts.{Times, Generate, Test, Aggregate, PartTree}
 use Rattle.gta_spec.specs.WellFormed.{EachFits, FitsKind, FitParts}
@@ -21,67 +19,17 @@ use Rattle.gta_checked.specs.Within.{IsTermWithin, IsAtomWithin, IsCaseWithin, I
 use Rattle.gta_checked.specs.Within.{IsTestWithin, IsGoalWithin}
 use Rattle.spec_rules.specs.declared.fault.Limit.TheVariants as limits
 use Rattle.spec_rules.specs.SpecRules.{is_table, is_measure, is_test, earlier}
-use Rattle.gta_types.specs.declared.declaring.NameKind.TheVariants.{AColumn, ALabel, AMeasure, ATable}
-use Rattle.gta_types.specs.Names.{Declaration, declarations_of, declarations, declaration_of}
-use Rattle.gta_types.specs.Names.{declared_as, is_of, same_kind, Weight, use_as, uses_of, uses}
+use Rattle.spec_tables.specs.Ready.{IsReadyTable}
+use Rattle.spec_tables.specs.Tables.{table_parts, tables_in}
+use Rattle.gta_types.specs.Names.{Weight, use_as, uses_of, uses}
 use Rattle.gta_types.specs.Resolved.{number_of_weight, column_items, measure_names, environment}
 use Rattle.gta_types.specs.Resolved.{resolved_case, resolved_goal, column_measure}
 use Rattle.gta_types.specs.Resolved.{declared_measures, tests_of, measures_of}
-use Rattle.gta_types.specs.Ready.{is_fold}
-use Rattle.gta_types.proofs.Looked.{called, option_cases, line_of_map, kind_differs}
+use Rattle.gta_types.proofs.Folds.{tables_of, fold_within}
 use Rattle.gta_types.proofs.Rules.{Kept, AllKept, few_lines, length_lines}
 use Rattle.gta_types.proofs.InRange.{weight_in}
 use Rattle.gta_types.proofs.Within.{Known, column_count, label_count, each_front, each_back}
 use Rattle.gta_types.proofs.Within.{or_false_parts, cases_within, check_within}
-
--- no line is a table, so no name is declared as one
-no_table_here : (p : Declaration → Bool) (line : ℕ) (kind : KindTree) (d : Declaration) → is_table kind ≡ false
-    → find p (declarations_of line kind) ≡ Some d → same_kind ATable d.kind ≡ true → ⊥
-no_table_here p line (Columns items) d none e same =
-    kind_differs AColumn d.kind (line_of_map p line AColumn (λ (item : ColumnItem). item.name) items d e).1 refl same
-no_table_here p line (Labels xs) d none e same =
-    kind_differs ALabel d.kind (line_of_map p line ALabel (λ (x : List ℕ). x) xs d e).1 refl same
-no_table_here p line (Measure part) d none e same =
-    kind_differs AMeasure d.kind (line_of_map p line AMeasure (λ (x : List ℕ). x) (part.name ∷ []) d e).1 refl same
-no_table_here p line (Table part) d none e same = false≢true (sym none)
-no_table_here p line (Times part) d none e same = none-some d e
-no_table_here p line (Generate shape) d none e same = none-some d e
-no_table_here p line (Test test) d none e same = none-some d e
-no_table_here p line (Aggregate goal) d none e same = none-some d e
-
-no_table : (p : Declaration → Bool) (parts : List PartTree) (d : Declaration)
-    → list_any (λ (part : PartTree). is_table part.kind) parts ≡ false → find p (declarations parts) ≡ Some d
-    → same_kind ATable d.kind ≡ true → ⊥
-no_table p [] d none e same = none-some d e
-no_table p (part ∷ parts) d none e same =
-    let n = or_false_parts (is_table part.kind) (list_any (λ (part : PartTree). is_table part.kind) parts) none in
-    let ds = declarations_of part.line part.kind in
-    let joined = sym (find-append p ds (declarations parts)) ∙ e in
-    elim (option_cases (find p ds)) [
-      | inl here ↦ no_table p parts d n.1 (rw here at joined) same
-      | inr here ↦ (let found = same_Some _ _ (rw here.1 at joined) in
-          no_table_here p part.line part.kind d n.0 (here.1 ∙ ap Some found) same)
-    ]
-
-module _ (all : List PartTree) (none : list_any (λ (part : PartTree). is_table part.kind) all ≡ false) where
-  no_table_known : (x : List ℕ) → is_of ATable (declared_as all x) ≡ true → ⊥
-  no_table_known x known =
-      elim (option_cases (declaration_of (declarations all) x)) [
-        | inl here ↦ (let h : false ≡ true = rw here at known in false≢true h)
-        | inr here ↦ no_table (called x) all here.0 none here.1 (rw here.1 at known)
-      ]
-
-  not_fold : (line : ℕ) (kind : KindTree) → EachFits (Known all) (uses_of line kind) → is_fold kind ≡ false
-  not_fold line (Columns items) known = refl
-  not_fold line (Labels xs) known = refl
-  not_fold line (Measure part) known = refl
-  not_fold line (Table part) known = refl
-  not_fold line (Times part) known = refl
-  not_fold line (Generate shape) known = refl
-  not_fold line (Test (Sum x check)) known = refl
-  not_fold line (Test (Length check)) known = refl
-  not_fold line (Test (Fold table picks accept)) known = absurd (no_table_known table (not-false _ known.0))
-  not_fold line (Aggregate goal) known = refl
 
 -- what is known of each line
 pub record LineFacts (all : List PartTree) (line : ℕ) (kind : KindTree) : Type 0 where
@@ -89,25 +37,22 @@ pub record LineFacts (all : List PartTree) (line : ℕ) (kind : KindTree) : Type
   pub fits : FitsKind kind
   pub kept : Kept count kind
   pub known : EachFits (Known all) (uses_of line kind)
-  pub no_fold : is_fold kind ≡ false
 
 abbrev pub Facts : List PartTree → PartTree → Type 0
 Facts all part = LineFacts all part.line part.kind
 
-pub line_facts : (all : List PartTree) → list_any (λ (part : PartTree). is_table part.kind) all ≡ false
-    → (low : ℕ) (before parts : List PartTree) → FitParts low parts → AllKept before parts
-    → EachFits (Known all) (uses parts) → EachFits (Facts all) parts
-line_facts all none low before [] fits kept known = tt
-line_facts all none low before (part ∷ parts) fits kept known =
+pub line_facts : (all : List PartTree) (low : ℕ) (before parts : List PartTree) → FitParts low parts
+    → AllKept before parts → EachFits (Known all) (uses parts) → EachFits (Facts all) parts
+line_facts all low before [] fits kept known = tt
+line_facts all low before (part ∷ parts) fits kept known =
     let here = each_front (Known all) (uses_of part.line part.kind) (uses parts) known in (
       record {
         count = earlier before part.kind;
         fits = fits.1;
         kept = kept.0;
         known = here;
-        no_fold = not_fold all none part.line part.kind here;
       },
-      line_facts all none (part.line + 1) (before ++ part ∷ []) parts fits.2 kept.1
+      line_facts all (part.line + 1) (before ++ part ∷ []) parts fits.2 kept.1
           (each_back (Known all) (uses_of part.line part.kind) (uses parts) known),
     )
 
@@ -132,6 +77,17 @@ test_pick before (Times part) kept = refl
 test_pick before (Generate shape) kept = refl
 test_pick before (Test test) kept = kept limits.Tests
 test_pick before (Aggregate goal) kept = refl
+
+table_pick : (before : List PartTree) (kind : KindTree) → Kept (earlier before kind) kind
+    → (is_table kind && leb TABLE_LIMIT (length (filter (λ line. is_table line.kind) before))) ≡ false
+table_pick before (Columns items) kept = refl
+table_pick before (Labels xs) kept = refl
+table_pick before (Measure part) kept = refl
+table_pick before (Table part) kept = kept limits.Tables
+table_pick before (Times part) kept = refl
+table_pick before (Generate shape) kept = refl
+table_pick before (Test test) kept = refl
+table_pick before (Aggregate goal) kept = refl
 
 one_measure_name : (kind : KindTree) → length (measure_names kind) ≡ cond (is_measure kind) 1 0
 one_measure_name (Columns items) = refl
@@ -164,6 +120,16 @@ one_test all (Generate shape) = refl
 one_test all (Test test) = refl
 one_test all (Aggregate goal) = refl
 
+one_table : (kind : KindTree) → length (table_parts kind) ≡ cond (is_table kind) 1 0
+one_table (Columns items) = refl
+one_table (Labels xs) = refl
+one_table (Measure part) = refl
+one_table (Table part) = refl
+one_table (Times part) = refl
+one_table (Generate shape) = refl
+one_table (Test test) = refl
+one_table (Aggregate goal) = refl
+
 pub few_measure_names : (all : List PartTree) → AllKept [] all → length (environment all).measures ≤ MEASURE_LIMIT
 few_measure_names all kept =
     let few = few_lines is_measure MEASURE_LIMIT measure_pick all kept in
@@ -175,6 +141,12 @@ pub few_tests : (all : List PartTree) → AllKept [] all
 few_tests all kept =
     let few = few_lines is_test TEST_LIMIT test_pick all kept in
     let len = length_lines is_test TEST_LIMIT test_pick (tests_of (environment all)) (one_test all) all in
+    omega (arith, few, len)
+
+pub few_tables : (all : List PartTree) → AllKept [] all → length (tables_in all) ≤ TABLE_LIMIT
+few_tables all kept =
+    let few = few_lines is_table TABLE_LIMIT table_pick all kept in
+    let len = length_lines is_table TABLE_LIMIT table_pick table_parts one_table all in
     omega (arith, few, len)
 
 pub measures_length : (all : List PartTree)
@@ -203,7 +175,7 @@ abbrev pub MeasureWithin : List PartTree → List PlainCase → Type 0
 MeasureWithin all = IsMeasureWithin (column_count all) (label_count all)
 
 abbrev pub TestWithin : List PartTree → PlainTest → Type 0
-TestWithin all = IsTestWithin (column_count all) (label_count all) (length (measures_of all))
+TestWithin all = IsTestWithin (column_count all) (label_count all) (length (measures_of all)) (tables_of all)
 
 measures_of_line : (all : List PartTree) (line : ℕ) (kind : KindTree) → LineFacts all line kind
     → All (MeasureWithin all) (declared_measures (environment all) kind)
@@ -247,7 +219,10 @@ tests_of_line all line (Test (Length check)) facts =
     (check_within check (one_check _ (facts.kept limits.Bound)) (one_check _ (facts.kept limits.Modulus))
     (one_check _ (facts.kept limits.Residue)))
     (All-nil (TestWithin all))
-tests_of_line all line (Test (Fold table picks accept)) facts = absurd (false≢true (sym facts.no_fold))
+tests_of_line all line (Test (Fold table picks accept)) facts =
+    All-cons (TestWithin all) _ []
+    (fold_within all line table picks accept (facts.kept limits.Cases) (facts.kept limits.Atoms) facts.known)
+    (All-nil (TestWithin all))
 tests_of_line all line (Aggregate goal) facts = All-nil (TestWithin all)
 
 pub goal_of_line : (all : List PartTree) (line : ℕ) (goal : GoalPart) → LineFacts all line (Aggregate goal)
@@ -307,3 +282,32 @@ all_tests all facts =
     all_flat (TestWithin all)
     (Facts all) (λ (part : PartTree). tests_of (environment all) part.kind)
     (λ part facts. tests_of_line all part.line part.kind facts) all facts
+
+-- each table is ready for its products to be looked at
+ready_of_line : (all : List PartTree) (line : ℕ) (kind : KindTree) → LineFacts all line kind
+    → EachFits IsReadyTable (table_parts kind)
+ready_of_line all line (Columns items) facts = tt
+ready_of_line all line (Labels xs) facts = tt
+ready_of_line all line (Measure part) facts = tt
+ready_of_line all line (Table part) facts = (
+  record {
+    some = facts.fits.2.0;
+    few = ltb-false ELEMENT_LIMIT (length part.elements) (facts.kept limits.Elements);
+    unit = not-false _ facts.known.0;
+  },
+  tt,
+)
+ready_of_line all line (Times part) facts = tt
+ready_of_line all line (Generate shape) facts = tt
+ready_of_line all line (Test test) facts = tt
+ready_of_line all line (Aggregate goal) facts = tt
+
+each_append : {A : Type 0} (F : A → Type 0) (xs ys : List A) → EachFits F xs → EachFits F ys → EachFits F (xs ++ ys)
+each_append F [] ys front back = back
+each_append F (x ∷ xs) ys front back = (front.0, each_append F xs ys front.1 back)
+
+pub tables_ready : (all parts : List PartTree) → EachFits (Facts all) parts → EachFits IsReadyTable (tables_in parts)
+tables_ready all [] facts = tt
+tables_ready all (part ∷ parts) facts =
+    each_append IsReadyTable (table_parts part.kind) (tables_in parts)
+    (ready_of_line all part.line part.kind facts.0) (tables_ready all parts facts.1)

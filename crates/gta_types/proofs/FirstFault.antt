@@ -1,7 +1,7 @@
 -- The first fault of the names, from the first unknown use and the first name declared twice.
 use Rattle.std.proofs.Common.{◌≡◌, ℕ, List, Option, Some, None, option_map, refl, sym, ap, ◌∙◌}
+use Rattle.std.specs.Option.{option_or}
 use Rattle.std.proofs.lemmas.Option.{none-some, same_Some}
-use Rattle.spec_rules.specs.SpecRules.{or_else}
 use Rattle.gta_spec.specs.Parts.{PartTree}
 use Rattle.gta_types.specs.declared.fault.CheckFault.{CheckFault}
 use Rattle.gta_types.specs.declared.fault.CheckFault.TheVariants.{Unknown, Twice}
@@ -10,12 +10,12 @@ use Rattle.gta_types.specs.Index.{used_place, declared_place}
 use Rattle.gta_types.specs.Faults.{name_fault}
 
 unknown_at : (u : Option Use) (other : Option CheckFault) (p : ℕ × List ℕ) → option_map used_place u ≡ Some p
-    → or_else (option_map (λ u. Unknown u.line u.name) u) other ≡ Some (Unknown p.0 p.1)
+    → option_or (option_map (λ u. Unknown u.line u.name) u) other ≡ Some (Unknown p.0 p.1)
 unknown_at None other p e = absurd (none-some p e)
 unknown_at (Some u) other p e = ap (λ (p : ℕ × List ℕ). Some (Unknown p.0 p.1)) (same_Some _ _ e)
 
 none_unknown : (u : Option Use) (other : Option CheckFault) → option_map used_place u ≡ None
-    → or_else (option_map (λ u. Unknown u.line u.name) u) other ≡ other
+    → option_or (option_map (λ u. Unknown u.line u.name) u) other ≡ other
 none_unknown None other e = refl
 none_unknown (Some u) other e = absurd (none-some _ (sym e))
 
@@ -55,7 +55,7 @@ unfolding name_fault
 no_name_fault parts e = both (unknown_use parts) (declared_twice (declarations parts)) e
   where
     both : (u : Option Use) (d : Option Declaration)
-        → or_else (option_map (λ u. Unknown u.line u.name) u) (option_map (λ d. Twice d.line d.name) d) ≡ None
+        → option_or (option_map (λ u. Unknown u.line u.name) u) (option_map (λ d. Twice d.line d.name) d) ≡ None
         → (u ≡ None) × (d ≡ None)
     both None None e = (refl, refl)
     both None (Some d) e = absurd (none-some _ (sym e))

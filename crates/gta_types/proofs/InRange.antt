@@ -6,18 +6,20 @@ use Rattle.std.specs.List.{find, flat_map}
 use Rattle.std.specs.Str.{bytes_eq}
 use Rattle.std.proofs.lemmas.List.{map-append, length-append}
 use Rattle.std.proofs.lemmas.List.Folds.{find-append}
+use Rattle.std.proofs.lemmas.Simd.{map-map}
 use Rattle.std.proofs.lemmas.Bool.{false≢true, cases_Bool, cases_lt, or_cases}
 use Rattle.std.proofs.lemmas.Option.{none-some, same_Some}
 use Rattle.gta_spec.specs.declared.parts.ColumnItem.{ColumnItem}
 use Rattle.gta_spec.specs.Parts.{KindTree, Columns, Labels, Measure, Table, Times, Generate, Test}
-use Rattle.gta_spec.specs.Parts.{Aggregate, PartTree}
+use Rattle.gta_spec.specs.Parts.{Aggregate, TableTree, PartTree}
 use Rattle.gta_types.specs.declared.declaring.NameKind.{NameKind}
 use Rattle.gta_types.specs.declared.declaring.NameKind.TheVariants.{AColumn, ALabel, AMeasure, ATable, AnElement}
 use Rattle.gta_types.specs.Names.{Declaration, declare, declarations_of, declarations}
 use Rattle.gta_types.specs.Names.{declaration_of, declared_as, is_element, is_of, same_kind}
-use Rattle.gta_types.specs.Resolved.{number_of, column_items, label_names, measure_names, environment}
-use Rattle.gta_types.proofs.Looked.{called, option_cases, line_of_map}
-use Rattle.gta_types.proofs.Numbers.{number_of-append-past, number_of-append-within}
+use Rattle.spec_tables.specs.Tables.{number_of, table_parts, tables_in}
+use Rattle.gta_types.specs.Resolved.{column_items, label_names, measure_names, TableNames, table_names, environment}
+use Rattle.gta_types.proofs.Looked.{called, option_cases, line_of_map, table_hit}
+use Rattle.spec_tables.proofs.NumberOf.{number_of-append-past, number_of-append-within}
 
 -- the number of x is one of these names
 abbrev pub IsIn : List ℕ → List (List ℕ) → Type 0
@@ -149,6 +151,24 @@ measure_here x line (Generate shape) d e same = absurd (none-some d e)
 measure_here x line (Test test) d e same = absurd (none-some d e)
 measure_here x line (Aggregate goal) d e same = absurd (none-some d e)
 
+table_here : (x : List ℕ) (line : ℕ) (kind : KindTree) (d : Declaration)
+    → find (called x) (declarations_of line kind) ≡ Some d → same_kind ATable d.kind ≡ true
+    → IsIn x (map (λ (table : TableTree). table.name) (table_parts kind))
+table_here x line (Columns items) d e same =
+    absurd (other_kind ATable AColumn d.kind
+    (line_of_map (called x) line AColumn (λ (item : ColumnItem). item.name) items d e).1 refl same)
+table_here x line (Labels xs) d e same =
+    absurd (other_kind ATable ALabel d.kind (line_of_map (called x) line ALabel
+    (λ (x : List ℕ). x) xs d e).1 refl same)
+table_here x line (Measure part) d e same =
+    absurd (other_kind ATable AMeasure d.kind
+    (line_of_map (called x) line AMeasure (λ (x : List ℕ). x) (part.name ∷ []) d e).1 refl same)
+table_here x line (Table part) d e same = rw (table_hit line part.name x part.elements d e).0 (omega arith)
+table_here x line (Times part) d e same = absurd (none-some d e)
+table_here x line (Generate shape) d e same = absurd (none-some d e)
+table_here x line (Test test) d e same = absurd (none-some d e)
+table_here x line (Aggregate goal) d e same = absurd (none-some d e)
+
 map-flat_map : {A B C : Type 0} (h : B → C) (f : A → List B) (xs : List A)
     → map h (flat_map f xs) ≡ flat_map (λ x. map h (f x)) xs
 map-flat_map h f [] = refl
@@ -166,6 +186,15 @@ column_in parts x known =
 pub label_in : (parts : List PartTree) (x : List ℕ) → is_of ALabel (declared_as parts x) ≡ true
     → IsIn x (environment parts).labels
 label_in parts x known = declared_in ALabel label_names x (label_here x) parts known
+
+pub table_in : (parts : List PartTree) (x : List ℕ) → is_of ATable (declared_as parts x) ≡ true
+    → IsIn x (map (λ (table : TableNames). table.name) (environment parts).tables)
+table_in parts x known =
+    subst (IsIn x)
+    (sym (map-map (λ (table : TableNames). table.name) table_names (tables_in parts)
+    ∙ map-flat_map (λ (table : TableTree). table.name) (λ (part : PartTree). table_parts part.kind) parts))
+    (declared_in ATable (λ kind. map (λ (table : TableTree). table.name) (table_parts kind)) x
+    (table_here x) parts known)
 
 pub weight_in : (parts : List PartTree) (x : List ℕ)
     → (is_of AColumn (declared_as parts x) || is_of AMeasure (declared_as parts x)) ≡ true

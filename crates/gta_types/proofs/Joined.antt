@@ -5,7 +5,8 @@ use Rattle.shape_gen.specs.declared.shape.Shape.{Shape}
 use Rattle.gta_spec.specs.Parts.{PartTree, SpecTree}
 use Rattle.gta_checked.specs.declared.resolved.Goal.{Goal}
 use Rattle.gta_checked.specs.declared.resolved.Test.{Test}
-use Rattle.gta_checked.specs.Plain.{PlainCase, plain_measure, plain_test, plain_checked}
+use Rattle.gta_checked.specs.Plain.{PlainCase, plain_measure, plain_named, plain_test, plain_checked}
+use Rattle.spec_tables.specs.Tables.{named_table, tables_in}
 use Rattle.gta_types.specs.declared.lists.Lists.{Lists}
 use Rattle.gta_types.specs.declared.drafting.Draft.{Draft}
 use Rattle.gta_types.specs.Resolved.{Environment, environment, column_items, column_measure}
@@ -37,11 +38,12 @@ pub is_resolved : (spec : SpecTree) (lists : Lists) (columns : ℕ) (old new : D
     → environment_of lists ≡ environment spec.parts
     → lists.columns.items ≡ flat_map (λ (part : PartTree). column_items part.kind) spec.parts
     → columns ≡ length (environment spec.parts).columns
+    → map plain_named lists.tables.items ≡ map (named_table spec.parts) (tables_in spec.parts)
     → IsFresh columns old → IsDrafted (environment_of lists) spec.parts old new
     → shape ∷ [] ≡ new.shapes.items → goal ∷ [] ≡ new.goals.items
     → IsResolved spec (plain_checked spec.version lists.columns.items lists.labels.items
-    new.measures.items new.tests.items shape goal)
-is_resolved spec lists columns old new shape goal names items count fresh drafted one_shape one_goal = record {
+    new.measures.items lists.tables.items new.tests.items shape goal)
+is_resolved spec lists columns old new shape goal names items count tables fresh drafted one_shape one_goal = record {
   version = refl;
   columns = items;
   labels = ap (λ (e : Environment). e.labels) names;
@@ -53,6 +55,7 @@ is_resolved spec lists columns old new shape goal names items count fresh drafte
       ∙ ap (λ (e : Environment). map column_measure
       (range_with_len 0 (length (environment spec.parts).columns)) ++ flat_map
       (λ (part : PartTree). declared_measures e part.kind) spec.parts) names;
+  tables = tables;
   tests = drafted.tests
       ∙ ap (λ (xs : List Test). map plain_test xs ++ flat_map
       (λ (part : PartTree). tests_of (environment_of lists) part.kind) spec.parts) fresh.tests

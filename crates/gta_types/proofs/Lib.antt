@@ -1,13 +1,13 @@
 pub mod Keys
 pub mod Twice
-pub mod Fronts
 pub mod Unknown
 pub mod Looked
 pub mod FirstFault
-pub mod Numbers
 pub mod Rules
 pub mod InRange
+pub mod Tables
 pub mod Within
+pub mod Folds
 pub mod Accepted
 pub mod Whole
 pub mod Joined

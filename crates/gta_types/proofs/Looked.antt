@@ -12,13 +12,14 @@ use Rattle.gta_spec.specs.declared.parts.ColumnItem.{ColumnItem}
 use Rattle.gta_spec.specs.Parts.{KindTree, Columns, Labels, Measure, Table, Times, Generate, Test}
 use Rattle.gta_spec.specs.Parts.{Aggregate, PartTree}
 use Rattle.gta_spec.specs.WellFormed.{FitParts}
-use Rattle.spec_rules.specs.SpecRules.{or_else, first_answer}
+use Rattle.spec_rules.specs.SpecRules.{first_answer}
 use Rattle.gta_types.specs.declared.declaring.NameKind.{NameKind}
 use Rattle.gta_types.specs.declared.declaring.NameKind.TheVariants.{AColumn, ALabel, AMeasure, ATable, AnElement}
 use Rattle.gta_types.specs.declared.names.Found.{Found}
 use Rattle.gta_types.specs.declared.names.Names.{Names}
 use Rattle.gta_types.specs.Names.{Declaration, declare, declarations_of, declarations, is_element}
-use Rattle.gta_types.specs.Names.{declaration_of, kind_of, Use, Wanted, is_one_of, table_elements}
+use Rattle.spec_tables.specs.Tables.{is_one_of}
+use Rattle.gta_types.specs.Names.{declaration_of, kind_of, Use, Wanted, table_elements}
 use Rattle.gta_types.specs.Names.{listed, elements_of, is_of, same_kind, declared_as, is_known}
 use Rattle.gta_types.specs.Names.{unknown_use, uses}
 use Rattle.gta_types.specs.Names as names
@@ -125,12 +126,21 @@ elements_named line x [] = refl
 elements_named line x (name ∷ xs) =
     rw (eq-eqb (line + 1) (line + 1) refl, bytes_eq_swap x name, elements_named line x xs) refl
 
+-- a declaration of a table line that is called t is the table's own
+pub table_hit : (line : ℕ) (name t : List ℕ) (elements : List (List ℕ)) (d : Declaration)
+    → find (called t) (declare line ATable name ∷ map (declare line AnElement) elements) ≡ Some d
+    → (bytes_eq name t ≡ true) × (declare line ATable name ≡ d)
+table_hit line name t elements d e =
+    cond_some (bytes_eq name t) (declare line ATable name) d
+    (ap (λ (o : Option Declaration). cond (bytes_eq name t) (Some (declare line ATable name)) o)
+    (sym (no_element line t elements)) ∙ e)
+
 -- a table that is found on a line: it has that line, and its elements are those of the line
 record IsTableOf (line : ℕ) (kind : KindTree) (t : List ℕ) (d : Declaration) : Type 0 where
   on_line : d.line ≡ line
   elements : (x : List ℕ) → list_any (is_named (line + 1) x) (declarations_of line kind)
       ≡ is_one_of (listed (table_elements kind t)) x
-  there : (o : Option (List (List ℕ))) → or_else (table_elements kind t) o ≡ table_elements kind t
+  there : (o : Option (List (List ℕ))) → option_or (table_elements kind t) o ≡ table_elements kind t
 
 table_here : (line : ℕ) (kind : KindTree) (t : List ℕ) (d : Declaration)
     → find (called t) (declarations_of line kind) ≡ Some d → same_kind ATable d.kind ≡ true → IsTableOf line kind t d
@@ -143,9 +153,7 @@ table_here line (Measure part) t d e same =
     absurd (kind_differs AMeasure d.kind
     (line_of_map (called t) line AMeasure (λ (x : List ℕ). x) (part.name ∷ []) d e).1 refl same)
 table_here line (Table part) t d e same =
-    let hit = cond_some (bytes_eq part.name t) (declare line ATable part.name) d
-    (ap (λ (o : Option Declaration). cond (bytes_eq part.name t) (Some (declare line ATable part.name)) o)
-    (sym (no_element line t part.elements)) ∙ e) in
+    let hit = table_hit line part.name t part.elements d e in
     record {
       on_line = ap (λ (x : Declaration). x.line) (sym hit.1);
       elements = λ x. rw (not_element line line x part.name ATable refl, hit.0) (elements_named line x part.elements);

@@ -1,5 +1,6 @@
 -- What holds of each line, and of the lines together, where no rule is broken.
 use Rattle.std.proofs.Common.{◌≡◌, ℕ, ◌+◌, ◌≤◌, Bool, true, false, ◌&&◌, ◌||◌, List, [], ◌∷◌, ◌++◌}
+use Rattle.std.specs.Option.{option_or}
 use Rattle.std.proofs.Common.{filter, length, Option, Some, None, option_map, cond, refl, sym, ap}
 use Rattle.std.proofs.Common.{◌∙◌, inl, inr, append_assoc, subst, leb, arith}
 use Rattle.std.specs.List.{find, list_any, flat_map}
@@ -13,12 +14,12 @@ use Rattle.spec_rules.specs.declared.fault.SinglePart.{SinglePart}
 use Rattle.spec_rules.specs.declared.fault.SinglePart.TheVariants as singles
 use Rattle.spec_rules.specs.declared.fault.Limit.{Limit}
 use Rattle.spec_rules.specs.declared.fault.Limit.TheVariants as limits
-use Rattle.spec_rules.specs.SpecRules.{or_else, first_answer, single_of, is_the, is_single, is_past}
+use Rattle.spec_rules.specs.SpecRules.{first_answer, single_of, is_the, is_single, is_past}
 use Rattle.spec_rules.specs.SpecRules.{all_limits, limit_at, second_at, earlier}
 
-pub or_else_none : {A : Type 0} (x y : Option A) → or_else x y ≡ None → (x ≡ None) × (y ≡ None)
-or_else_none None y e = (refl, e)
-or_else_none (Some x) y e = absurd (none-some _ (sym e))
+pub option_or_none : {A : Type 0} (x y : Option A) → option_or x y ≡ None → (x ≡ None) × (y ≡ None)
+option_or_none None y e = (refl, e)
+option_or_none (Some x) y e = absurd (none-some _ (sym e))
 
 pub mapped_none : {A B : Type 0} (f : A → B) (o : Option A) → option_map f o ≡ None → o ≡ None
 mapped_none f None e = refl
@@ -64,7 +65,7 @@ pub all_kept : (before parts : List PartTree)
     → AllKept before parts
 all_kept before [] e = tt
 all_kept before (part ∷ parts) e =
-    let h = or_else_none _ _ e in (
+    let h = option_or_none _ _ e in (
       kept_by (earlier before part.kind) part.kind
           (none_found (is_past (earlier before part.kind) part.kind) all_limits (mapped_none _ _ h.0)),
       all_kept (before ++ part ∷ []) parts h.1,
@@ -126,7 +127,7 @@ pub all_once : (before parts : List PartTree)
     → AllOnce before parts
 all_once before [] e = tt
 all_once before (part ∷ parts) e =
-    let h = or_else_none _ _ e in
+    let h = option_or_none _ _ e in
     let each = none_found (λ single. is_single single part && list_any (is_single single) before)
     (singles.Columns ∷ singles.Labels ∷ singles.Generate ∷ singles.Aggregate ∷ []) (mapped_none _ _ h.0) in
     (once before part each, all_once (before ++ part ∷ []) parts h.1)

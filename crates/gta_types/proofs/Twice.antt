@@ -8,25 +8,16 @@ use Rattle.std.specs.Str.{bytes_eq}
 use Rattle.std.proofs.lemmas.List.Folds.{find-append}
 use Rattle.std.proofs.lemmas.List.{append-nil}
 use Rattle.std.proofs.lemmas.Bool.{eq-eqb, ne_eqb, cases_eq}
-use Rattle.spec_rules.specs.SpecRules.{or_else, first_answer}
+use Rattle.spec_rules.specs.SpecRules.{first_answer}
 use Rattle.gta_types.specs.declared.names.Found.{Found}
 use Rattle.gta_types.specs.declared.names.Names.{Names}
 use Rattle.gta_types.specs.Names.{Declaration, is_element, share_names, declared_again, declared_twice}
 use Rattle.gta_types.specs.Index.{scope_of, is_named, found_of, first_in, known_at, declared_place, IsIndex}
 
-pub or_else-or : {A : Type 0} (x y : Option A) → or_else x y ≡ option_or x y
-or_else-or None y = refl
-or_else-or (Some x) y = refl
-
-option_or_mapped : {A B : Type 0} (f : A → B) (x y : Option A)
+pub option_or_mapped : {A B : Type 0} (f : A → B) (x y : Option A)
     → option_map f (option_or x y) ≡ option_or (option_map f x) (option_map f y)
 option_or_mapped f None y = refl
 option_or_mapped f (Some x) y = refl
-
-pub or_else_mapped : {A B : Type 0} (f : A → B) (x y : Option A)
-    → option_map f (or_else x y) ≡ or_else (option_map f x) (option_map f y)
-or_else_mapped f None y = refl
-or_else_mapped f (Some x) y = refl
 
 mapped_cond : {A B : Type 0} (f : A → B) (b : Bool) (x : A)
     → option_map f (cond b (Some x) None) ≡ cond b (Some (f x)) None
@@ -89,27 +80,27 @@ is_named_again d e =
     ap (λ (b : Bool). b && bytes_eq d.name e.name) (same_scope (is_element e.kind) (is_element d.kind) e.line d.line)
     ∙ ap (λ (b : Bool). share_names e d && b) (bytes_eq_swap d.name e.name)
 
-or_else-assoc : {A : Type 0} (x y z : Option A) → or_else (or_else x y) z ≡ or_else x (or_else y z)
-or_else-assoc None y z = refl
-or_else-assoc (Some x) y z = refl
+option_or-assoc : {A : Type 0} (x y z : Option A) → option_or (option_or x y) z ≡ option_or x (option_or y z)
+option_or-assoc None y z = refl
+option_or-assoc (Some x) y z = refl
 
-or_else-none : {A : Type 0} (x : Option A) → or_else x None ≡ x
-or_else-none None = refl
-or_else-none (Some x) = refl
+option_or-none : {A : Type 0} (x : Option A) → option_or x None ≡ x
+option_or-none None = refl
+option_or-none (Some x) = refl
 
 pub first_answer-append : {A B : Type 0} (ask : List A → A → Option B) (before xs ys : List A)
-    → first_answer ask before (xs ++ ys) ≡ or_else (first_answer ask before xs) (first_answer ask (before ++ xs) ys)
+    → first_answer ask before (xs ++ ys) ≡ option_or (first_answer ask before xs) (first_answer ask (before ++ xs) ys)
 first_answer-append ask before [] ys = ap (λ (b : List _). first_answer ask b ys) (sym (append-nil before))
 first_answer-append ask before (x ∷ xs) ys =
-    ap (or_else (ask before x)) (first_answer-append ask (before ++ x ∷ []) xs ys
-    ∙ ap (λ (b : List _). or_else (first_answer ask (before ++ x ∷ []) xs) (first_answer ask b ys))
+    ap (option_or (ask before x)) (first_answer-append ask (before ++ x ∷ []) xs ys
+    ∙ ap (λ (b : List _). option_or (first_answer ask (before ++ x ∷ []) xs) (first_answer ask b ys))
     (append_assoc before (x ∷ []) xs))
-    ∙ sym (or_else-assoc (ask before x) _ _)
+    ∙ sym (option_or-assoc (ask before x) _ _)
 
 declared_twice-push : (all : List Declaration) (d : Declaration)
-    → declared_twice (all ++ d ∷ []) ≡ or_else (declared_twice all) (declared_again all d)
+    → declared_twice (all ++ d ∷ []) ≡ option_or (declared_twice all) (declared_again all d)
 declared_twice-push all d = first_answer-append declared_again [] all (d ∷ [])
-    ∙ ap (or_else (declared_twice all)) (or_else-none (declared_again all d))
+    ∙ ap (option_or (declared_twice all)) (option_or-none (declared_again all d))
 
 pub index_more : (names after : Names) (all : List Declaration) (d : Declaration)
     (t : ℕ) (y : List ℕ) (v : Found) → IsIndex names all
@@ -127,7 +118,7 @@ index_more names after all d t y v known at_scope at_name is_found added = λ s 
 pub twice_more : (names : Names) (all : List Declaration) (d : Declaration) (again : Bool) (t : ℕ) (y : List ℕ)
     → IsIndex names all → t ≡ scope_of d → y ≡ d.name → again ≡ is_some (known_at names t y)
     → option_map declared_place (declared_twice (all ++ d ∷ []))
-    ≡ or_else (option_map declared_place (declared_twice all)) (cond again (Some (declared_place d)) None)
+    ≡ option_or (option_map declared_place (declared_twice all)) (cond again (Some (declared_place d)) None)
 unfolding first_in
 twice_more names all d again t y known at_scope at_name is =
     let e : again ≡ list_any (λ e. share_names e d && bytes_eq e.name d.name) all =
@@ -135,7 +126,7 @@ twice_more names all d again t y known at_scope at_name is =
     ∙ is_some-mapped_find found_of (is_named (scope_of d) d.name) all
     ∙ list_any_same _ _ (is_named_again d) all in
     ap (option_map declared_place) (declared_twice-push all d)
-    ∙ or_else_mapped declared_place (declared_twice all) (declared_again all d)
-    ∙ ap (or_else (option_map declared_place (declared_twice all)))
+    ∙ option_or_mapped declared_place (declared_twice all) (declared_again all d)
+    ∙ ap (option_or (option_map declared_place (declared_twice all)))
     (mapped_cond declared_place (list_any (λ e. share_names e d && bytes_eq e.name d.name) all) d
     ∙ ap (λ (b : Bool). cond b (Some (declared_place d)) None) (sym e))

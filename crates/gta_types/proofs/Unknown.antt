@@ -12,7 +12,7 @@ use Rattle.gta_types.specs.declared.names.Names.{Names}
 use Rattle.gta_types.specs.declared.names.Place.{Place}
 use Rattle.gta_types.specs.Names.{Use}
 use Rattle.gta_types.specs.Index.{known_by, used_place, place, unknown_in}
-use Rattle.gta_types.proofs.Fronts.{take_next, split_at}
+use Rattle.spec_tables.proofs.Fronts.{take_next, split_at}
 
 option_or_mapped : {A B : Type 0} (f : A → B) (x y : Option A)
     → option_map f (option_or x y) ≡ option_or (option_map f x) (option_map f y)

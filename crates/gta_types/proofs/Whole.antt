@@ -1,7 +1,7 @@
 -- What holds of a specification without a fault, and that its resolved form is within the limits.
 use Rattle.std.proofs.Common.{◌≡◌, ◌↔◌, ℕ, ◌≤◌, Bool, true, false, ◌||◌, not, List, [], ◌∷◌, map}
-use Rattle.std.proofs.Common.{length, get_or, Option, Some, None, is_some, cond, refl, sym, ap, ◌∙◌}
-use Rattle.std.proofs.Common.{inl, inr, subst, arith}
+use Rattle.std.proofs.Common.{length, get_or, Option, Some, None, is_some, refl, sym, ap, ◌∙◌}
+use Rattle.std.proofs.Common.{inl, inr, subst, All, arith}
 use Rattle.std.specs.List.{list_any, flat_map}
 use Rattle.std.proofs.lemmas.List.{length-map}
 use Rattle.std.proofs.lemmas.List.Folds.{list_any-append}
@@ -16,24 +16,24 @@ use Rattle.gta_spec.specs.Parts.{Aggregate, PartTree, SpecTree, part_tree, kind_
 use Rattle.gta_spec.specs.WellFormed.{EachFits, IsWellFormed}
 use Rattle.gta_checked.specs.declared.resolved.Goal.{Goal}
 use Rattle.gta_checked.specs.Plain.{PlainChecked}
-use Rattle.gta_checked.specs.Within.{IsGoalWithin, IsWithinLimits}
+use Rattle.gta_checked.specs.Within.{IsGoalWithin, IsTableWithin, IsWithinLimits}
 use Rattle.spec_rules.specs.declared.fault.SinglePart.TheVariants as singles
 use Rattle.spec_rules.specs.declared.fault.Limit.TheVariants as limits
 use Rattle.spec_rules.specs.SpecRules.{single_of, is_the, is_single, first_line, labels_assign_of}
-use Rattle.spec_rules.specs.SpecRules.{labels_assign, rule_fault, is_assign, is_table}
-use Rattle.gta_types.specs.declared.fault.CheckFault.{CheckFault}
+use Rattle.spec_rules.specs.SpecRules.{labels_assign, rule_fault, is_assign}
 use Rattle.gta_types.specs.Names.{Use, is_known, uses}
-use Rattle.gta_types.specs.Resolved.{column_items, label_names, table_parts, environment, shapes_of}
+use Rattle.spec_tables.specs.Tables.{tables_in, named_table}
+use Rattle.gta_types.specs.Resolved.{column_items, label_names, environment, shapes_of}
 use Rattle.gta_types.specs.Resolved.{goals_of, resolved_goal, measures_of, IsResolved}
 use Rattle.gta_types.specs.Ready.{IsReady}
 use Rattle.gta_types.specs.Lists.{HasFewNames}
-use Rattle.gta_types.specs.Faults.{check_fault, fault_of_rule}
+use Rattle.gta_types.specs.Faults.{name_fault}
 use Rattle.gta_types.proofs.FirstFault.{no_name_fault}
 use Rattle.gta_types.proofs.Twice.{is_some-mapped_find}
-use Rattle.gta_types.proofs.Rules.{or_else_none, mapped_none, none_found, AllKept, all_kept}
+use Rattle.gta_types.proofs.Rules.{option_or_none, mapped_none, none_found, AllKept, all_kept}
 use Rattle.gta_types.proofs.Rules.{AllOnce, all_once, IsOnly, the_only, none_there}
-use Rattle.gta_types.proofs.Within.{column_count, label_count, or_false_parts}
-use Rattle.gta_types.proofs.Accepted.{LineFacts, Facts, line_facts, few_measure_names, few_tests}
+use Rattle.gta_types.proofs.Within.{column_count, label_count}
+use Rattle.gta_types.proofs.Accepted.{LineFacts, Facts, line_facts, few_measure_names, few_tables, few_tests}
 use Rattle.gta_types.proofs.Accepted.{measures_length, all_measures, all_tests, goal_of_line}
 
 -- what holds of lines without a fault
@@ -45,27 +45,20 @@ pub record IsSound (parts : List PartTree) : Type 0 where
   pub has_generate : list_any (is_single singles.Generate) parts ≡ true
   pub has_aggregate : list_any (is_single singles.Aggregate) parts ≡ true
   pub assigned : labels_assign parts ≡ None
-  pub no_tables : list_any (λ (part : PartTree). is_table part.kind) parts ≡ false
 
-unbuilt_none : (b : Bool) (fault : CheckFault) → cond b (Some fault) None ≡ None → b ≡ false
-unbuilt_none true fault e = absurd (none-some _ (sym e))
-unbuilt_none false fault e = refl
-
-pub is_sound : (spec : SpecTree) → IsWellFormed spec → check_fault spec ≡ None → IsSound spec.parts
-unfolding check_fault rule_fault
-is_sound spec well accepted =
-    let a = or_else_none _ _ accepted in
-    let names = no_name_fault spec.parts a.0 in
-    let b = or_else_none _ _ a.1 in
-    let rules = or_else_none _ _ (mapped_none fault_of_rule _ b.0) in
-    let more = or_else_none _ _ rules.1 in
-    let last = or_else_none _ _ more.1 in
+pub is_sound : (spec : SpecTree) → IsWellFormed spec → name_fault spec.parts ≡ None → rule_fault spec ≡ None
+    → IsSound spec.parts
+unfolding rule_fault
+is_sound spec well no_fault kept_rules =
+    let names = no_name_fault spec.parts no_fault in
+    let rules = option_or_none _ _ kept_rules in
+    let more = option_or_none _ _ rules.1 in
+    let last = option_or_none _ _ more.1 in
     let there = none_found (λ part. not (list_any (is_single part) spec.parts))
     (singles.Columns ∷ singles.Generate ∷ singles.Aggregate ∷ []) (mapped_none _ _ rules.0) in
-    let no_tables = unbuilt_none _ _ b.1 in
     let kept = all_kept [] spec.parts last.1 in
     record {
-      facts = line_facts spec.parts no_tables 0 [] spec.parts well.parts kept
+      facts = line_facts spec.parts 0 [] spec.parts well.parts kept
           (none_found (λ (u : Use). not (is_known spec.parts u.wanted u.name)) (uses spec.parts) names.0);
       kept = kept;
       once = all_once [] spec.parts more.0;
@@ -73,7 +66,6 @@ is_sound spec well accepted =
       has_generate = not-false _ there.1.0;
       has_aggregate = not-false _ there.1.1.0;
       assigned = last.0;
-      no_tables = no_tables;
     }
 
 no_columns_else : (kind : KindTree) → is_the singles.Columns (single_of kind) ≡ false → column_items kind ≡ []
@@ -166,23 +158,6 @@ one_goal all line (Aggregate goal) is facts = (
       subst (IsGoalWithin (length (measures_of all))) (sym same) (goal_of_line all line goal facts),
 )
 
-no_table_parts : (parts : List PartTree) → list_any (λ (part : PartTree). is_table part.kind) parts ≡ false
-    → flat_map (λ (part : PartTree). table_parts part.kind) parts ≡ []
-no_table_parts [] e = refl
-no_table_parts (part ∷ parts) e =
-    let n = or_false_parts (is_table part.kind) (list_any (λ (part : PartTree). is_table part.kind) parts) e in
-    rw (here part.kind n.0, no_table_parts parts n.1) refl
-  where
-    here : (kind : KindTree) → is_table kind ≡ false → table_parts kind ≡ []
-    here (Columns items) e = refl
-    here (Labels xs) e = refl
-    here (Measure part) e = refl
-    here (Table part) e = absurd (false≢true (sym e))
-    here (Times part) e = refl
-    here (Generate shape) e = refl
-    here (Test test) e = refl
-    here (Aggregate goal) e = refl
-
 module _ (all : List PartTree) (sound : IsSound all) where
   pub the_columns : IsOnly (Facts all) singles.Columns column_items all
   the_columns = the_only singles.Columns column_items no_columns_else
@@ -225,7 +200,6 @@ module _ (all : List PartTree) (sound : IsSound all) where
     columns = few_columns;
     labels = few_labels;
     measures = few_measure_names all sound.kept;
-    no_tables = no_table_parts all sound.no_tables;
   }
 
   pub one_shape_there : length (flat_map (λ (part : PartTree). shapes_of part.kind) all) ≡ 1
@@ -301,8 +275,8 @@ assigned_labels all sound shape only =
     )
 
 pub within_limits : (spec : SpecTree) → IsSound spec.parts → (checked : PlainChecked) → IsResolved spec checked
-    → IsWithinLimits checked
-within_limits spec sound checked resolved =
+    → All IsTableWithin checked.tables → IsWithinLimits checked
+within_limits spec sound checked resolved tables =
     let all = spec.parts in
     let m = measures_length all in
     let few_declared = few_measure_names all sound.kept in
@@ -313,8 +287,11 @@ within_limits spec sound checked resolved =
       assigned = rw resolved.labels (assigned_labels all sound checked.shape resolved.shape);
       few_measures = rw (resolved.columns, resolved.measures) (omega (arith, m, few_declared, columns));
       measures = rw (resolved.columns, resolved.labels, resolved.measures) (all_measures all sound.facts);
+      few_tables = (let few = few_tables all sound.kept in
+          let count = length-map (tables_in all) (named_table all) in rw resolved.tables (omega (arith, few, count)));
+      tables = tables;
       few_tests = rw resolved.tests (few_tests all sound.kept);
-      tests = rw (resolved.columns, resolved.labels, resolved.measures, resolved.tests) (all_tests all sound.facts);
+      tests = rw (resolved.columns, resolved.labels, resolved.measures, resolved.tables, resolved.tests) (all_tests all sound.facts);
       goal = rw resolved.measures (goal_within all sound checked.goal resolved.goal);
     }
 
@@ -323,7 +300,7 @@ pub all_ready : (all : List PartTree) (parts : List Part) → EachFits (Facts al
     → EachFits IsReady (map (λ (part : Part). kind_tree part.kind) parts)
 all_ready all [] facts = tt
 all_ready all (part ∷ parts) facts = (
-  record { fits = facts.0.fits; kept = facts.0.kept limits.Kept; no_fold = facts.0.no_fold },
+  record { fits = facts.0.fits; kept = facts.0.kept limits.Kept },
   all_ready all parts facts.1,
 )
 

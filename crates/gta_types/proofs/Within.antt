@@ -16,12 +16,14 @@ use Rattle.gta_spec.specs.declared.parts.Check.{Check}
 use Rattle.gta_spec.specs.declared.parts.Check.TheVariants.{Compare, Mod}
 use Rattle.gta_spec.specs.Parts.{CaseTree, PartTree}
 use Rattle.gta_spec.specs.WellFormed.{EachFits, FitsQuantity, FitsTerm, FitsCase}
-use Rattle.gta_checked.specs.Within.{IsFactorWithin, IsTermWithin, IsAtomWithin, IsCaseWithin, IsCheckWithin}
+use Rattle.gta_checked.specs.Within.{IsFactorWithin, IsTermWithin, IsAtomWithin, IsConditionWithin}
+use Rattle.gta_checked.specs.Within.{IsCaseWithin, IsCheckWithin}
 use Rattle.spec_rules.specs.SpecRules.{is_longer, case_forms, case_conditions, is_quantity_past}
 use Rattle.spec_rules.specs.SpecRules.{is_factor_past, is_bound_past, is_modulus_past}
 use Rattle.spec_rules.specs.SpecRules.{is_residue_past}
 use Rattle.gta_types.specs.Names.{Use, Column, use_as, is_known, uses_of_term, use_of_atom, uses_of_case}
-use Rattle.gta_types.specs.Resolved.{number_of, column_items, environment, signed, factor_of}
+use Rattle.spec_tables.specs.Tables.{number_of}
+use Rattle.gta_types.specs.Resolved.{column_items, environment, signed, factor_of}
 use Rattle.gta_types.specs.Resolved.{resolved_term, resolved_atom, resolved_case}
 use Rattle.gta_types.proofs.InRange.{column_in, label_in}
 
@@ -97,6 +99,15 @@ module _ (all : List PartTree) (line : ℕ) where
       All-cons (IsAtomWithin (column_count all) (label_count all)) (resolved_atom (environment all) atom)
       (map (resolved_atom (environment all)) cond) (atom_within atom known.0) (atoms_within cond known.1)
 
+  pub condition_within : (cond : List AtomPart) → is_longer ATOM_LIMIT cond ≡ false
+      → EachFits (Known all) (map (use_of_atom line) cond)
+      → IsConditionWithin (column_count all) (label_count all) (map (resolved_atom (environment all)) cond)
+  condition_within cond atoms known = (
+    (let l = length-map cond (resolved_atom (environment all)) in
+        let few = ltb-false ATOM_LIMIT (length cond) atoms in omega arith),
+    atoms_within cond known,
+  )
+
   case_within : (case : CaseTree) → FitsCase case → is_longer TERM_LIMIT case.form ≡ false
       → is_longer ATOM_LIMIT case.cond ≡ false → list_any is_factor_past case.form ≡ false
       → EachFits (Known all) (uses_of_case line case)
@@ -106,12 +117,8 @@ module _ (all : List PartTree) (line : ℕ) where
         let few = ltb-false TERM_LIMIT (length case.form) terms in omega arith);
     terms = terms_within case.form fits.0.1 factors
         (each_front (Known all) (flat_map (λ (term : TermPart). uses_of_term line term.name) case.form) _ known);
-    condition = (
-      (let l = length-map case.cond (resolved_atom (environment all)) in
-          let few = ltb-false ATOM_LIMIT (length case.cond) atoms in omega arith),
-      atoms_within case.cond
-          (each_back (Known all) (flat_map (λ (term : TermPart). uses_of_term line term.name) case.form) _ known),
-    );
+    condition = condition_within case.cond atoms
+        (each_back (Known all) (flat_map (λ (term : TermPart). uses_of_term line term.name) case.form) _ known);
   }
 
   pub cases_within : (cases : List CaseTree) → EachFits FitsCase cases

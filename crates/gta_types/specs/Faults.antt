@@ -1,6 +1,6 @@
 -- The faults of a specification in their order.
-use Rattle.std.specs.Prelude.{◌≡◌, ℕ, List, Option, Some, None, option_map, if◌then◌else◌, codes}
-use Rattle.std.specs.List.{list_any}
+use Rattle.std.specs.Prelude.{◌≡◌, ℕ, List, Option, Some, option_map, codes}
+use Rattle.std.specs.Option.{option_or}
 use Rattle.gta_spec.specs.Parts.{PartTree, SpecTree}
 use Rattle.spec_rules.specs.declared.fault.SinglePart.{SinglePart}
 use Rattle.spec_rules.specs.declared.fault.SinglePart.TheVariants as singles
@@ -8,7 +8,10 @@ use Rattle.spec_rules.specs.declared.fault.Limit.{Limit}
 use Rattle.spec_rules.specs.declared.fault.Limit.TheVariants as limits
 use Rattle.spec_rules.specs.declared.fault.RuleFault.{RuleFault}
 use Rattle.spec_rules.specs.declared.fault.RuleFault.TheVariants as rules
-use Rattle.spec_rules.specs.SpecRules.{or_else, rule_fault, is_table}
+use Rattle.spec_rules.specs.SpecRules.{rule_fault}
+use Rattle.spec_tables.specs.declared.fault.TablesFault.{TablesFault}
+use Rattle.spec_tables.specs.declared.fault.TablesFault.TheVariants as tables
+use Rattle.spec_tables.specs.Faults.{tables_fault}
 use Rattle.gta_types.specs.declared.fault.CheckFault.{CheckFault}
 use Rattle.gta_types.specs.declared.fault.CheckFault.TheVariants as faults
 use Rattle.gta_types.specs.Names.{declarations, declared_twice, unknown_use}
@@ -45,21 +48,23 @@ fault_of_rule (rules.SecondPart line part) = faults.SecondPart line (part_word p
 fault_of_rule (rules.LabelsAssign line assign) = faults.LabelsAssign line assign
 fault_of_rule (rules.Limit line limit) = faults.Limit line (limit_word limit)
 
--- a table, which is not built yet
-abbrev pub unbuilt : List PartTree → Option CheckFault
-unbuilt parts = if list_any (λ part. is_table part.kind) parts then Some faults.Unbuilt else None
+abbrev pub fault_of_table : TablesFault → CheckFault
+fault_of_table (tables.UnitFails table element left) = faults.UnitFails table element left
+fault_of_table (tables.NotAssociative table a b c) = faults.NotAssociative table a b c
+fault_of_table (tables.NotSquare table element) = faults.NotSquare table element
+fault_of_table tables.Memory = faults.Memory
 
 -- the first fault of the names: an unknown name, or else a name declared twice
 unfoldable pub name_fault : List PartTree → Option CheckFault
 name_fault parts =
-    or_else (option_map (λ u. faults.Unknown u.line u.name) (unknown_use parts))
+    option_or (option_map (λ u. faults.Unknown u.line u.name) (unknown_use parts))
     (option_map (λ d. faults.Twice d.line d.name) (declared_twice (declarations parts)))
 
--- the first fault of a specification, or none: of its names, a broken rule, a table
+-- the first fault of a specification, or none: of its names, a broken rule, or that of its tables
 unfoldable pub check_fault : SpecTree → Option CheckFault
 check_fault spec =
-    or_else (name_fault spec.parts)
-    (or_else (option_map fault_of_rule (rule_fault spec)) (unbuilt spec.parts))
+    option_or (name_fault spec.parts)
+    (option_or (option_map fault_of_rule (rule_fault spec)) (option_map fault_of_table (tables_fault spec.parts)))
 
 -- an end that carries this fault; want of memory is free
 abbrev pub IsEndBy : Option CheckFault → CheckFault → Type 0

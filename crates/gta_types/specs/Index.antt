@@ -14,7 +14,8 @@ use Rattle.gta_types.specs.declared.uses.Wanted.TheVariants as wants
 use Rattle.gta_types.specs.Names.{Declaration, is_element, Use, Wanted, Column, Label, Weight}
 use Rattle.gta_types.specs.Names.{TableName, ElementOf, OneOf}
 use Rattle.gta_types.specs.declared.declaring.NameKind.TheVariants.{AColumn, ALabel, AMeasure, ATable}
-use Rattle.gta_types.specs.Names.{is_of, is_one_of}
+use Rattle.gta_types.specs.Names.{is_of}
+use Rattle.spec_tables.specs.Tables.{is_one_of}
 
 -- a declaration as a record of plain values
 abbrev pub declaration : Declared → Declaration

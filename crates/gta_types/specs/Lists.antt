@@ -1,14 +1,19 @@
--- The declared names of a specification without tables, as the code keeps them.
-use Rattle.std.specs.Prelude.{◌≡◌, ◌≤◌, List, [], ◌++◌, map, length}
+-- The declared names of a specification, as the code keeps them.
+use Rattle.std.specs.Prelude.{◌≡◌, ◌≤◌, List, ◌++◌, map, length}
 use Rattle.std.specs.List.{flat_map}
 use Rattle.gta_spec.specs.declared.limits.TheConstants.{COLUMN_LIMIT, LABEL_LIMIT, MEASURE_LIMIT}
 use Rattle.gta_spec.specs.Parts.{KindTree, PartTree}
+use Rattle.gta_checked.specs.declared.resolved.Table.{Table}
 use Rattle.gta_checked.specs.Plain.{plain_measure, plain_test}
 use Rattle.gta_types.specs.declared.lists.Lists.{Lists}
 use Rattle.gta_types.specs.declared.gathering.Gathered.{Gathered}
 use Rattle.gta_types.specs.declared.drafting.Draft.{Draft}
-use Rattle.gta_types.specs.Resolved.{Environment, environment, column_items, label_names, measure_names, table_parts}
+use Rattle.gta_types.specs.Resolved.{Environment, TableNames, environment, column_items, label_names, measure_names}
 use Rattle.gta_types.specs.Resolved.{declared_measures, tests_of, shapes_of, goals_of}
+
+-- a table's name, and the names of its elements
+abbrev pub names_of : Table → TableNames
+names_of table = record { name = table.name; elements = table.elements.items }
 
 -- the environment that these lists stand for
 abbrev pub environment_of : Lists → Environment
@@ -16,7 +21,7 @@ environment_of lists = record {
   columns = map (λ item. item.name) lists.columns.items;
   labels = lists.labels.items;
   measures = lists.measures.items;
-  tables = [];
+  tables = map names_of lists.tables.items;
 }
 
 -- the copies have one line's names more
@@ -31,12 +36,11 @@ pub record HasGathered (parts : List PartTree) (gathered : Gathered) : Type 0 wh
   pub labels : gathered.labels.items ≡ flat_map (λ part. label_names part.kind) parts
   pub measures : gathered.measures.items ≡ flat_map (λ part. measure_names part.kind) parts
 
--- the names of these lines are no more than there may be, and none is a table
+-- the names of these lines are no more than there may be
 pub record HasFewNames (parts : List PartTree) : Type 0 where
   pub columns : length (flat_map (λ part. column_items part.kind) parts) ≤ COLUMN_LIMIT
   pub labels : length (environment parts).labels ≤ LABEL_LIMIT
   pub measures : length (environment parts).measures ≤ MEASURE_LIMIT
-  pub no_tables : flat_map (λ part. table_parts part.kind) parts ≡ []
 
 -- one line's share is drafted beside what was
 pub record IsDraftedMore (env : Environment) (kind : KindTree) (old new : Draft) : Type 0 where

@@ -12,6 +12,7 @@ use Rattle.gta_spec.specs.Parts.{CaseTree, PickTree, TestTree, Sum, Length, Fold
 use Rattle.gta_spec.specs.Parts.{Labels, Measure, Table}
 use Rattle.gta_spec.specs.Parts.{Times, Test, Aggregate, PartTree}
 use Rattle.spec_rules.specs.SpecRules.{first_answer}
+use Rattle.spec_tables.specs.Tables.{is_one_of}
 use Rattle.gta_types.specs.declared.declaring.NameKind.{NameKind}
 use Rattle.gta_types.specs.declared.declaring.NameKind.TheVariants.{AColumn, ALabel, AMeasure, ATable, AnElement}
 
@@ -132,9 +133,6 @@ uses_of line _ = []
 -- the names that a specification uses, by line and place
 abbrev pub uses : List PartTree → List Use
 uses parts = flat_map (λ part. uses_of part.line part.kind) parts
-
-abbrev pub is_one_of : List (List ℕ) → List ℕ → Bool
-is_one_of names x = list_any (λ name. bytes_eq name x) names
 
 -- the elements of the table of a name, where it is the name of a table
 abbrev pub table_elements : KindTree → List ℕ → Option (List (List ℕ))

@@ -3,7 +3,7 @@ use Rattle.std.specs.Prelude.{◌≡◌, ℕ, Bool, true, false, ℤ, pos, neg_�
 use Rattle.std.specs.Prelude.{length, Option, Some, None}
 use Rattle.std.specs.Prelude.{option_map}
 use Rattle.std.specs.Str.{bytes_eq}
-use Rattle.std.specs.List.{find, flat_map, position_or_len, range_with_len}
+use Rattle.std.specs.List.{find, flat_map, range_with_len}
 use Rattle.shape_gen.specs.declared.shape.Shape.{Shape}
 use Rattle.gta_spec.specs.declared.parts.AtomPart.{AtomPart}
 use Rattle.gta_spec.specs.declared.parts.AtomPart.TheVariants as atom_parts
@@ -12,7 +12,7 @@ use Rattle.gta_spec.specs.declared.parts.GoalPart.{GoalPart}
 use Rattle.gta_spec.specs.declared.parts.GoalPart.TheVariants as goal_parts
 use Rattle.gta_spec.specs.declared.parts.TermPart.{TermPart}
 use Rattle.gta_spec.specs.Parts.{CaseTree, TableTree, PickTree, TestTree, Sum, Length, Fold}
-use Rattle.gta_spec.specs.Parts.{KindTree, Columns, Labels, Measure, Table}
+use Rattle.gta_spec.specs.Parts.{KindTree, Columns, Labels, Measure}
 use Rattle.gta_spec.specs.Parts.{Generate, Test, Aggregate, PartTree, SpecTree}
 use Rattle.gta_checked.specs.declared.resolved.Term.{Term}
 use Rattle.gta_checked.specs.declared.resolved.Atom.{Atom}
@@ -21,10 +21,7 @@ use Rattle.gta_checked.specs.declared.resolved.Goal.{Goal}
 use Rattle.gta_checked.specs.declared.resolved.Goal.TheVariants as goals
 use Rattle.gta_checked.specs.Plain.{PlainCase, PlainPick, PlainTest, PlainChecked}
 use Rattle.gta_checked.specs.Plain as plain
-
--- the number of a name among these, from 0
-abbrev pub number_of : List (List ℕ) → List ℕ → ℕ
-number_of names x = position_or_len (λ name. bytes_eq name x) names
+use Rattle.spec_tables.specs.Tables.{number_of, tables_in, named_table}
 
 abbrev pub column_items : KindTree → List ColumnItem
 column_items (Columns items) = items
@@ -38,31 +35,35 @@ abbrev pub measure_names : KindTree → List (List ℕ)
 measure_names (Measure part) = part.name ∷ []
 measure_names _ = []
 
-abbrev pub table_parts : KindTree → List TableTree
-table_parts (Table part) = part ∷ []
-table_parts _ = []
+-- a table's name, and the names of its elements
+pub record TableNames : Type 0 where
+  pub name : List ℕ
+  pub elements : List (List ℕ)
+
+abbrev pub table_names : TableTree → TableNames
+table_names table = record { name = table.name; elements = table.elements }
 
 -- the declared names of a specification, each kind in its order
 pub record Environment : Type 0 where
   pub columns : List (List ℕ)
   pub labels : List (List ℕ)
   pub measures : List (List ℕ)
-  pub tables : List TableTree
+  pub tables : List TableNames
 
 abbrev pub environment : List PartTree → Environment
 environment parts = record {
   columns = map (λ item. item.name) (flat_map (λ part. column_items part.kind) parts);
   labels = flat_map (λ part. label_names part.kind) parts;
   measures = flat_map (λ part. measure_names part.kind) parts;
-  tables = flat_map (λ part. table_parts part.kind) parts;
+  tables = map table_names (tables_in parts);
 }
 
-abbrev pub elements_listed : Option TableTree → List (List ℕ)
+abbrev pub elements_listed : Option TableNames → List (List ℕ)
 elements_listed None = []
 elements_listed (Some table) = table.elements
 
 -- the elements of the first table of a name
-abbrev pub elements_in : List TableTree → List ℕ → List (List ℕ)
+abbrev pub elements_in : List TableNames → List ℕ → List (List ℕ)
 elements_in tables x = elements_listed (find (λ table. bytes_eq table.name x) tables)
 
 abbrev pub signed : Bool → ℕ → ℤ
@@ -144,6 +145,7 @@ pub record IsResolved (spec : SpecTree) (checked : PlainChecked) : Type 0 where
   pub columns : checked.columns ≡ flat_map (λ part. column_items part.kind) spec.parts
   pub labels : checked.labels ≡ (environment spec.parts).labels
   pub measures : checked.measures ≡ measures_of spec.parts
+  pub tables : checked.tables ≡ map (named_table spec.parts) (tables_in spec.parts)
   pub tests : checked.tests ≡ flat_map (λ part. tests_of (environment spec.parts) part.kind) spec.parts
   pub shape : checked.shape ∷ [] ≡ flat_map (λ part. shapes_of part.kind) spec.parts
   pub goal : checked.goal ∷ [] ≡ flat_map (λ part. goals_of (environment spec.parts) part.kind) spec.parts

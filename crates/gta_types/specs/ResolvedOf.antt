@@ -1,11 +1,12 @@
 -- The one specification that another is resolved to.
-use Rattle.std.specs.Prelude.{◌≡◌, List, [], ◌∷◌}
+use Rattle.std.specs.Prelude.{◌≡◌, List, [], ◌∷◌, map}
 use Rattle.std.specs.List.{flat_map}
 use Rattle.std.proofs.Common.{refl}
 use Rattle.shape_gen.specs.declared.shape.Shape.TheVariants.{Sublists}
 use Rattle.gta_checked.specs.declared.resolved.Goal.TheVariants.{Count}
 use Rattle.gta_checked.specs.Plain.{PlainChecked}
 use Rattle.gta_spec.specs.Parts.{SpecTree}
+use Rattle.spec_tables.specs.Tables.{tables_in, named_table}
 use Rattle.gta_types.specs.Resolved.{IsResolved, column_items, environment, goals_of, measures_of}
 use Rattle.gta_types.specs.Resolved.{shapes_of, tests_of}
 
@@ -23,6 +24,7 @@ resolved_of spec =
       columns = flat_map (λ part. column_items part.kind) spec.parts;
       labels = env.labels;
       measures = measures_of spec.parts;
+      tables = map (named_table spec.parts) (tables_in spec.parts);
       tests = flat_map (λ part. tests_of env part.kind) spec.parts;
       shape = first_or Sublists (flat_map (λ part. shapes_of part.kind) spec.parts);
       goal = first_or Count (flat_map (λ part. goals_of env part.kind) spec.parts);
@@ -31,4 +33,4 @@ resolved_of spec =
 pub resolved-is : {spec : SpecTree} {checked : PlainChecked} → IsResolved spec checked → checked ≡ resolved_of spec
 unfolding resolved_of
 resolved-is is =
-    rw (← is.measures, ← is.tests, ← is.goal, ← is.labels, ← is.columns, ← is.shape, ← is.version) refl
+    rw (← is.measures, ← is.tables, ← is.tests, ← is.goal, ← is.labels, ← is.columns, ← is.shape, ← is.version) refl

@@ -1,20 +1,20 @@
 //! The check of a specification: its faults in their order, and its names resolved to numbers.
 
-ghost use Rattle.std.specs.Prelude.{◌≡◌, None, IfOk, IfErr, OnOk, map};
-ghost use Rattle.gta_spec.specs.Parts.{part_tree, spec_tree};
+ghost use Rattle.std.specs.Prelude.{◌≡◌, None, IfOk, IfErr, OnOk};
+ghost use Rattle.gta_spec.specs.Parts.{spec_tree};
 ghost use Rattle.gta_spec.specs.WellFormed.{IsWellFormed};
-ghost use Rattle.std.specs.List.{list_any};
-ghost use Rattle.spec_rules.specs.SpecRules.{is_table};
 ghost use Rattle.gta_types.specs.Resolved.{IsResolved};
 ghost use Rattle.gta_types.specs.Faults.{check_fault, IsFaultOf, part_word, limit_word, fault_of_rule};
+ghost use Rattle.gta_types.specs.Faults.{fault_of_table};
 
 use crate::fault::CheckFault;
 use crate::joining::resolve;
 use crate::naming::check_names;
 use gta_checked::Checked;
-use gta_spec::{Part, PartKind, Spec};
+use gta_spec::Spec;
 use gta_text::Name;
 use spec_rules::{Limit, RuleFault, SinglePart, rule_fault};
+use spec_tables::{TablesFault, checked_tables};
 use std::alloc::{AllocError, Global};
 
 /// The specification with its names resolved to numbers.
@@ -32,21 +32,10 @@ pub fn check(alloc: Global, spec: &Spec) -> Result<Checked, CheckFault>
     if let Some(fault) = rule_fault(spec) {
         return Err(fault_of_rule(alloc, fault)?);
     }
-    if has_table(spec.parts.as_slice()) {
-        return Err(CheckFault::Unbuilt);
+    match checked_tables(alloc, spec.parts.as_slice()) {
+        Ok(tables) => Ok(resolve(alloc, spec, tables)?),
+        Err(fault) => Err(fault_of_table(fault)),
     }
-    Ok(resolve(alloc, spec)?)
-}
-
-fn has_table(parts: &[Part]) -> bool
-    ensures { result ≡ list_any (λ part. is_table part.kind) (map part_tree parts.now) }
-{
-    for part in parts {
-        if let PartKind::Table(_) = part.kind {
-            return true;
-        }
-    }
-    false
 }
 
 fn part_word(part: SinglePart) -> &'static [u8]
@@ -101,5 +90,27 @@ fn fault_of_rule(alloc: Global, fault: RuleFault) -> Result<CheckFault, AllocErr
             let limit = Name::of(alloc, limit_word(limit))?;
             Ok(CheckFault::Limit { line, limit })
         }
+    }
+}
+
+/// The fault of the tables, as one of the specification.
+fn fault_of_table(fault: TablesFault) -> CheckFault
+    ensures { result ≡ fault_of_table fault }
+{
+    match fault {
+        TablesFault::UnitFails {
+            table,
+            element,
+            left,
+        } => CheckFault::UnitFails {
+            table,
+            element,
+            left,
+        },
+        TablesFault::NotAssociative { table, a, b, c } => {
+            CheckFault::NotAssociative { table, a, b, c }
+        }
+        TablesFault::NotSquare { table, element } => CheckFault::NotSquare { table, element },
+        TablesFault::Memory => CheckFault::Memory,
     }
 }

@@ -42,7 +42,7 @@ fn draft_part(
             Ok(())
         }
         PartKind::Test(test) => {
-            draft.tests.push(resolve_test(lists, test))?;
+            draft.tests.push(resolve_test(alloc, lists, test)?)?;
             Ok(())
         }
         PartKind::Aggregate(goal) => {

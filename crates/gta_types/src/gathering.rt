@@ -1,12 +1,16 @@
 //! Copies of the declared names, each kind in its order.
 
-ghost use Rattle.std.specs.Prelude.{◌≡◌, ◌++◌, map, IfOk, OnOk};
+ghost use Rattle.std.specs.Prelude.{◌≡◌, ◌≤◌, ◌++◌, map, vec_len, All, IfOk, OnOk};
 ghost use Rattle.gta_spec.specs.Parts.{kind_tree, part_tree};
-ghost use Rattle.gta_types.specs.Lists.{environment_of, HasGathered, HasGatheredMore, HasFewNames};
+ghost use Rattle.gta_spec.specs.declared.limits.TheConstants.{TABLE_LIMIT};
+ghost use Rattle.gta_checked.specs.Plain.{plain_named};
+ghost use Rattle.gta_checked.specs.Within.{IsTableWithin};
+ghost use Rattle.gta_types.specs.Lists.{environment_of, names_of, HasGathered, HasGatheredMore, HasFewNames};
 ghost use Rattle.gta_types.specs.Resolved.{environment, column_items};
 ghost use Rattle.std.specs.List.{flat_map};
 
 use crate::lists::Lists;
+use gta_checked::Table;
 use gta_spec::{ColumnItem, Part, PartKind};
 use gta_text::Name;
 use std::alloc::{AllocError, Global};
@@ -86,12 +90,20 @@ fn gather(alloc: Global, parts: &[Part]) -> Result<Gathered, AllocError>
     Ok(gathered)
 }
 
-/// The declared names of these lines, which have no table.
-pub(crate) fn lists_of(alloc: Global, parts: &[Part]) -> Result<Lists, AllocError>
+/// The declared names of these lines, with the tables of their lines.
+pub(crate) fn lists_of(
+    alloc: Global,
+    parts: &[Part],
+    tables: Vec<Table>,
+) -> Result<Lists, AllocError>
     requires few { HasFewNames (map part_tree parts.now) }
+    requires few_tables { vec_len tables ≤ TABLE_LIMIT }
+    requires within { All IsTableWithin (map plain_named tables.items) }
+    requires tables { map names_of tables.items ≡ (environment (map part_tree parts.now)).tables }
     ensures names { IfOk result (λ lists. environment_of lists ≡ environment (map part_tree parts.now)) }
     ensures columns { IfOk result (λ lists. lists.columns.items
         ≡ flat_map (λ part. column_items part.kind) (map part_tree parts.now)) }
+    ensures tables { IfOk result (λ lists. lists.tables.items ≡ tables.items) }
 {
     let Gathered {
         columns,
@@ -102,5 +114,6 @@ pub(crate) fn lists_of(alloc: Global, parts: &[Part]) -> Result<Lists, AllocErro
         columns,
         labels,
         measures,
+        tables,
     })
 }

@@ -1,7 +1,7 @@
 //! The first declarations of a specification, and the first name that is declared twice.
 
 ghost use Rattle.std.specs.Prelude.{◌≡◌, map, IfOk, option_map, Some, None, if◌then◌else◌};
-ghost use Rattle.spec_rules.specs.SpecRules.{or_else};
+ghost use Rattle.std.specs.Option.{option_or};
 ghost use Rattle.gta_types.specs.Names.{declared_twice};
 ghost use Rattle.gta_types.specs.Index.{declaration, declared_place, place, IsIndex};
 
@@ -33,7 +33,7 @@ pub(crate) fn index_of<'a>(alloc: Global, all: &[Declared<'a>]) -> Result<Index<
 
 /// The place that is there, or else the place of a name that is declared again.
 fn first_place<'a>(twice: Option<Place<'a>>, again: bool, d: &Declared<'a>) -> Option<Place<'a>>
-    ensures { option_map place result ≡ or_else (option_map place twice.entry)
+    ensures { option_map place result ≡ option_or (option_map place twice.entry)
         (if again then Some (declared_place (declaration d.now)) else None) }
 {
     match twice {

@@ -1,18 +1,24 @@
 //! The declared names of a specification, each kind in its order.
 
-ghost use Rattle.std.specs.Prelude.{◌≤◌, vec_len};
-ghost use Rattle.gta_spec.specs.declared.limits.TheConstants.{COLUMN_LIMIT, LABEL_LIMIT, MEASURE_LIMIT};
+ghost use Rattle.std.specs.Prelude.{◌≤◌, vec_len, map, All};
+ghost use Rattle.gta_spec.specs.declared.limits.TheConstants.{COLUMN_LIMIT, LABEL_LIMIT, MEASURE_LIMIT, TABLE_LIMIT};
+ghost use Rattle.gta_checked.specs.Plain.{plain_named};
+ghost use Rattle.gta_checked.specs.Within.{IsTableWithin};
 
+use gta_checked::Table;
 use gta_spec::ColumnItem;
 use gta_text::Name;
 
-/// Copies of the declared columns and labels, and of the names of the declared measures.
+/// Copies of the declared columns and labels, and of the names of the declared measures; and the tables.
 #[derive(Drop)]
 pub(crate) struct Lists {
     pub(crate) columns: Vec<ColumnItem>,
     pub(crate) labels: Vec<Name>,
     pub(crate) measures: Vec<Name>,
+    pub(crate) tables: Vec<Table>,
     ghost few_columns: { vec_len columns ≤ COLUMN_LIMIT },
     ghost few_labels: { vec_len labels ≤ LABEL_LIMIT },
     ghost few_measures: { vec_len measures ≤ MEASURE_LIMIT },
+    ghost few_tables: { vec_len tables ≤ TABLE_LIMIT },
+    ghost tables_within: { All IsTableWithin (map plain_named tables.items) },
 }

@@ -1,22 +1,23 @@
 //! Names replaced by their numbers.
 
-ghost use Rattle.std.specs.Prelude.{◌≡◌, ◌<◌, ◌^◌, length, map, IfOk, false};
-ghost use Rattle.gta_spec.specs.Parts.{case_tree, test_tree};
-ghost use Rattle.gta_checked.specs.Plain.{plain_case, plain_measure, plain_test};
-ghost use Rattle.gta_types.specs.Resolved.{number_of, number_of_weight, signed, factor_of};
-ghost use Rattle.gta_types.specs.Resolved.{resolved_term, resolved_atom, resolved_case};
+ghost use Rattle.std.specs.Prelude.{◌≡◌, ℕ, ◌<◌, ◌≤◌, ◌^◌, List, length, map, IfOk, false};
+ghost use Rattle.std.specs.List.{range_with_len};
+ghost use Rattle.monoid_kit.specs.declared.table.TheConstants.{GREATEST_TABLE};
+ghost use Rattle.gta_spec.specs.Parts.{Aggregate, Fold, case_tree, pick_tree, test_tree};
+ghost use Rattle.gta_spec.specs.WellFormed.{EachFits, FitsTerm, FitsCase};
+ghost use Rattle.gta_checked.specs.Plain.{plain_case, plain_measure, plain_pick, plain_test};
+ghost use Rattle.spec_rules.specs.SpecRules.{is_kept_past};
+ghost use Rattle.spec_tables.specs.Tables.{number_of};
+ghost use Rattle.gta_types.specs.Resolved.{elements_in, number_of_weight, signed, factor_of};
+ghost use Rattle.gta_types.specs.Resolved.{resolved_term, resolved_atom, resolved_case, resolved_pick};
 ghost use Rattle.gta_types.specs.Resolved.{resolved_test, resolved_goal, column_measure};
 ghost use Rattle.gta_types.specs.Lists.{environment_of};
-ghost use Rattle.gta_types.specs.Ready.{is_fold_test};
-ghost use Rattle.gta_spec.specs.WellFormed.{EachFits, FitsTerm, FitsCase};
-ghost use Rattle.gta_spec.specs.Parts.{Aggregate};
-ghost use Rattle.spec_rules.specs.SpecRules.{is_kept_past};
-ghost use Rattle.std.specs.List.{range_with_len};
 
 use crate::lists::Lists;
-use gta_checked::{Atom, Case, Goal, Measure, Term, Test};
-use gta_spec::{AtomPart, CasePart, ColumnItem, GoalPart, TermPart, TestPart};
+use gta_checked::{Atom, Case, Goal, Measure, Pick, Table, Term, Test};
+use gta_spec::{AtomPart, CasePart, ColumnItem, GoalPart, PickPart, TermPart, TestPart};
 use gta_text::Name;
+use spec_tables::number_in;
 use std::alloc::{AllocError, Global};
 
 /// The number of a column; that of columns where it is none.
@@ -32,17 +33,17 @@ fn column_number(columns: &[ColumnItem], name: &Name) -> u32
     columns.len() as u32
 }
 
-/// The number of a name among these; that of the names where it is none.
-fn name_number(names: &[Name], name: &Name) -> u32
-    requires { length names.now < 2 ^ 32 }
-    ensures { result ≡ number_of names.now name.now }
+/// The number of the first table of a name; that of the tables where it is none.
+fn table_number(tables: &[Table], name: &Name) -> u32
+    requires { length tables.now < 2 ^ 32 }
+    ensures { result ≡ number_of (map (λ table. table.name) tables.now) name.now }
 {
-    for (number, other) in names.iter().enumerate() {
-        if other.bytes() == name.bytes() {
+    for (number, table) in tables.iter().enumerate() {
+        if table.name.bytes() == name.bytes() {
             return number as u32;
         }
     }
-    names.len() as u32
+    tables.len() as u32
 }
 
 /// The number of a column or of a declared measure, the columns first.
@@ -54,7 +55,7 @@ fn weight_number(lists: &Lists, name: &Name) -> u32
     if column < columns {
         column
     } else {
-        columns + name_number(lists.measures.as_slice(), name)
+        columns + number_in(lists.measures.as_slice(), name)
     }
 }
 
@@ -98,7 +99,7 @@ fn resolve_atom(lists: &Lists, atom: &AtomPart) -> Atom
     ensures { result ≡ resolved_atom (environment_of lists.now) atom.now }
 {
     match atom {
-        AtomPart::Label(name) => Atom::Label(name_number(lists.labels.as_slice(), name)),
+        AtomPart::Label(name) => Atom::Label(number_in(lists.labels.as_slice(), name)),
         AtomPart::Column { name, cmp, number } => Atom::Column {
             column: column_number(lists.columns.as_slice(), name),
             cmp: *cmp,
@@ -173,18 +174,102 @@ pub(crate) fn column_measures(alloc: Global, columns: u32) -> Result<Vec<Measure
     Ok(measures)
 }
 
-/// A test. Without tables no test is a fold.
-pub(crate) fn resolve_test(lists: &Lists, test: &TestPart) -> Test
-    requires { is_fold_test (test_tree test.now) ≡ false }
-    ensures { plain_test result ≡ resolved_test (environment_of lists.now) (test_tree test.now) }
+/// The elements of the table of a number; none where it is past the last.
+fn elements_at(lists: &Lists, number: u32) -> &[Name]
+    ensures few { length result.now ≤ GREATEST_TABLE }
+    ensures elements { (name : List ℕ) → number ≡ number_of (map (λ table. table.name) lists.now.tables.items) name
+        → result.now ≡ elements_in (environment_of lists.now).tables name }
+{
+    if number as usize >= lists.tables.len() {
+        return &[];
+    }
+    lists.tables[number as usize].elements.as_slice()
+}
+
+fn resolve_pick(
+    alloc: Global,
+    lists: &Lists,
+    elements: &[Name],
+    pick: &PickPart,
+) -> Result<Pick, AllocError>
+    requires { length elements.now ≤ GREATEST_TABLE }
+    ensures { IfOk result (λ done. plain_pick done
+        ≡ resolved_pick (environment_of lists.now) elements.now (pick_tree pick.now)) }
+{
+    Ok(Pick {
+        element: number_in(elements, &pick.element),
+        cond: resolve_cond(alloc, lists, pick.cond.as_slice())?,
+    })
+}
+
+fn resolve_picks(
+    alloc: Global,
+    lists: &Lists,
+    elements: &[Name],
+    picks: &[PickPart],
+) -> Result<Vec<Pick>, AllocError>
+    requires { length elements.now ≤ GREATEST_TABLE }
+    ensures { IfOk result (λ done. map plain_pick done.items
+        ≡ map (resolved_pick (environment_of lists.now) elements.now) (map pick_tree picks.now)) }
+{
+    let mut done = Vec::new(alloc);
+    for pick in picks {
+        done.push(resolve_pick(alloc, lists, elements, pick)?)?;
+    }
+    Ok(done)
+}
+
+/// The numbers of these names among the elements.
+fn numbers_of(alloc: Global, elements: &[Name], names: &[Name]) -> Result<Vec<u32>, AllocError>
+    requires { length elements.now ≤ GREATEST_TABLE }
+    ensures { IfOk result (λ numbers. numbers.items ≡ map (number_of elements.now) names.now) }
+{
+    let mut numbers = Vec::new(alloc);
+    for name in names {
+        numbers.push(number_in(elements, name))?;
+    }
+    Ok(numbers)
+}
+
+/// A fold: its table's number, and its elements by their numbers in that table.
+fn resolve_fold(
+    alloc: Global,
+    lists: &Lists,
+    name: &Name,
+    picks: &[PickPart],
+    accept: &[Name],
+) -> Result<Test, AllocError>
+    ensures { IfOk result (λ test. plain_test test ≡ resolved_test (environment_of lists.now)
+        (Fold name.now (map pick_tree picks.now) accept.now)) }
+{
+    let table = table_number(lists.tables.as_slice(), name);
+    let elements = elements_at(lists, table);
+    Ok(Test::Fold {
+        table,
+        picks: resolve_picks(alloc, lists, elements, picks)?,
+        accept: numbers_of(alloc, elements, accept)?,
+    })
+}
+
+pub(crate) fn resolve_test(
+    alloc: Global,
+    lists: &Lists,
+    test: &TestPart,
+) -> Result<Test, AllocError>
+    ensures { IfOk result (λ done. plain_test done
+        ≡ resolved_test (environment_of lists.now) (test_tree test.now)) }
 {
     match test {
-        TestPart::Sum { name, check } => Test::Sum {
+        TestPart::Sum { name, check } => Ok(Test::Sum {
             measure: weight_number(lists, name),
             check: *check,
-        },
-        TestPart::Length { check } => Test::Length { check: *check },
-        TestPart::Fold { .. } => unreachable!(),
+        }),
+        TestPart::Length { check } => Ok(Test::Length { check: *check }),
+        TestPart::Fold {
+            table,
+            picks,
+            accept,
+        } => resolve_fold(alloc, lists, table, picks.as_slice(), accept.as_slice()),
     }
 }
 

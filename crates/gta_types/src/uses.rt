@@ -4,7 +4,8 @@ ghost use Rattle.std.specs.Prelude.{◌≡◌, [], ◌∷◌, map, option_map};
 ghost use Rattle.std.specs.List.{flat_map};
 ghost use Rattle.gta_spec.specs.Parts.{case_tree, pick_tree, test_tree, times_tree, kind_tree, part_tree, Fold, Times};
 ghost use Rattle.gta_types.specs.Names.{use_as, uses_of_term, use_of_atom, uses_of_case, uses_of_pick};
-ghost use Rattle.gta_types.specs.Names.{uses_of_test, uses_of_goal, uses_of, uses, is_of, is_one_of, ElementOf};
+ghost use Rattle.gta_types.specs.Names.{uses_of_test, uses_of_goal, uses_of, uses, is_of, ElementOf};
+ghost use Rattle.spec_tables.specs.Tables.{is_one_of};
 ghost use Rattle.gta_types.specs.Index.{place, known_by, has_element, unknown_in, wanted_of};
 
 use crate::declaring::NameKind;

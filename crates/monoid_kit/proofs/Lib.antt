@@ -2,3 +2,5 @@ pub mod Items
 pub mod Products
 pub mod Keyed
 pub mod Permutations
+pub mod Finds
+pub mod Tables

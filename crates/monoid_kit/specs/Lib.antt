@@ -4,3 +4,8 @@ pub mod Product
 pub mod Keyed
 pub mod CappedSum
 pub mod CappedSumLaws
+pub mod Modular
+pub mod ModularLaws
+pub mod Table
+pub mod TableOf
+pub mod FirstBad

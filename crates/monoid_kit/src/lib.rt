@@ -1,11 +1,18 @@
 //! Finite monoids, in which tests are computed. The trait is in monoid.rt, and its laws in
-//! specs/Monoid.antt; sums that stop one past a bound are in capped_sum.rt.
+//! specs/Monoid.antt; sums that stop one past a bound are in capped_sum.rt, sums of remainders in
+//! modular.rt, and monoids that are given by a table in table.rt.
 #![tactic(auto)]
 
 mod capped_sum;
+mod checks;
+mod modular;
 mod monoid;
+mod table;
 #[cfg(test)]
 mod tests;
 
 pub use capped_sum::{CappedSum, GREATEST_BOUND};
+pub use checks::{TableFault, check_table};
+pub use modular::{GREATEST_MODULUS, Modular};
 pub use monoid::Monoid;
+pub use table::{GREATEST_TABLE, RawTable, TableMonoid};

@@ -1,12 +1,15 @@
 -- The bytes of answers and of refusals.
-use Rattle.std.specs.Prelude.{ℕ, ◌+◌, ℤ, List, [], ◌++◌, codes}
+use Rattle.std.specs.Prelude.{ℕ, ◌+◌, ◌<◌, ℤ, List, [], ◌∷◌, ◌++◌, length, slice_index_or, codes}
 use Rattle.std.specs.Prelude.{Bool, true, false, ◌==◌, if◌then◌else◌, Option, Some, None}
 use Rattle.std.specs.Fmt.{decimal, signed_decimal}
+use Rattle.std.specs.List.{All}
+use Rattle.shape_gen.specs.declared.mark.Mark.{Mark}
+use Rattle.best_k.specs.declared.entry.Entry.{Entry}
 use Rattle.report_text.specs.declared.answer.TheConstants.{COUNT_CAP}
 use Rattle.report_text.specs.declared.answer.Answer.{Answer}
-use Rattle.report_text.specs.declared.answer.Answer.TheVariants.{Count, Any, Total}
+use Rattle.report_text.specs.declared.answer.Answer.TheVariants.{Count, Any, Total, Best}
 use Rattle.report_text.specs.declared.refusal.Refusal.{Refusal}
-use Rattle.report_text.specs.declared.refusal.Refusal.TheVariants.{Unbuilt, Byte, Version, Grammar}
+use Rattle.report_text.specs.declared.refusal.Refusal.TheVariants.{Byte, Version, Grammar}
 use Rattle.report_text.specs.declared.refusal.Refusal.TheVariants.{Number, NoRows}
 use Rattle.report_text.specs.declared.refusal.Refusal.TheVariants.{Unknown, Twice, Missing}
 use Rattle.report_text.specs.declared.refusal.Refusal.TheVariants.{SecondPart, LabelsAssign, Limit}
@@ -21,13 +24,76 @@ use Rattle.report_text.specs.declared.refusal.Refusal.TheVariants.{Size, ListSiz
 abbrev pub cap_text : ℕ → List ℕ
 cap_text n = if n == COUNT_CAP then codes " or more" else []
 
--- the report of an answer
-abbrev pub report_text : Answer → List ℕ
-report_text (Count n) = codes "answer " ++ (decimal n ++ (cap_text n ++ codes "\n"))
-report_text (Any true) = codes "answer yes\n"
-report_text (Any false) = codes "answer no\n"
-report_text (Total (Some total)) = codes "answer " ++ (signed_decimal total ++ codes "\n")
-report_text (Total None) = codes "answer none\n"
+-- the name of a label, where there are labels
+abbrev pub label_text : List (List ℕ) → ℕ → List ℕ
+label_text [] label = []
+label_text (name ∷ names) label = codes ":" ++ slice_index_or (name ∷ names) label []
+
+-- a mark: its row, printed from 1, and its label
+abbrev pub mark_text : List (List ℕ) → Mark → List ℕ
+mark_text labels mark = decimal (mark.row + 1) ++ label_text labels mark.label
+
+-- marks, each behind a space
+abbrev pub more_marks_text : List (List ℕ) → List Mark → List ℕ
+more_marks_text labels [] = []
+more_marks_text labels (mark ∷ marks) =
+    codes " " ++ (mark_text labels mark ++ more_marks_text labels marks)
+
+-- the marks of a candidate, with a space between them
+abbrev pub candidate_text : List (List ℕ) → List Mark → List ℕ
+candidate_text labels [] = codes "-"
+candidate_text labels (mark ∷ marks) = mark_text labels mark ++ more_marks_text labels marks
+
+-- the line of an entry at its place
+abbrev pub entry_text : List (List ℕ) → ℕ → Entry → List ℕ
+entry_text labels place entry =
+    decimal place ++ (codes " " ++ (signed_decimal entry.total ++ (codes " "
+    ++ (candidate_text labels entry.witness ++ codes "\n"))))
+
+-- the lines of entries, from a place on
+abbrev pub entries_text : List (List ℕ) → ℕ → List Entry → List ℕ
+entries_text labels place [] = []
+entries_text labels place (entry ∷ entries) =
+    entry_text labels place entry ++ entries_text labels (place + 1) entries
+
+-- the number of entries, and the entries from place 1 on
+abbrev pub best_text : List (List ℕ) → List Entry → List ℕ
+best_text labels entries =
+    codes "answer " ++ (decimal (length entries) ++ (codes "\n" ++ entries_text labels 1 entries))
+
+-- the report of an answer, with the names of the labels, or none where there are no labels
+abbrev pub report_text : Answer → List (List ℕ) → List ℕ
+report_text (Count n) labels = codes "answer " ++ (decimal n ++ (cap_text n ++ codes "\n"))
+report_text (Any true) labels = codes "answer yes\n"
+report_text (Any false) labels = codes "answer no\n"
+report_text (Total (Some total)) labels = codes "answer " ++ (signed_decimal total ++ codes "\n")
+report_text (Total None) labels = codes "answer none\n"
+report_text (Best entries) labels = best_text labels entries
+
+-- a candidate on a line of its own
+abbrev pub candidate_line : List (List ℕ) → List Mark → List ℕ
+candidate_line labels marks = candidate_text labels marks ++ codes "\n"
+
+-- the lines of candidates
+abbrev pub candidate_lines : List (List ℕ) → List (List Mark) → List ℕ
+candidate_lines labels [] = []
+candidate_lines labels (marks ∷ more) = candidate_line labels marks ++ candidate_lines labels more
+
+-- the number of candidates that are kept, and the candidates
+abbrev pub list_text : List (List ℕ) → List (List Mark) → List ℕ
+list_text labels candidates =
+    codes "kept " ++ (decimal (length candidates) ++ (codes "\n" ++ candidate_lines labels candidates))
+
+-- where there are labels, each mark has one of them
+abbrev pub AreLabelled : List (List ℕ) → List Mark → Type 0
+AreLabelled labels marks = 0 < length labels → All (λ mark. mark.label < length labels) marks
+
+-- the marks of a best answer have their labels
+abbrev pub IsLabelled : Answer → List (List ℕ) → Type 0
+IsLabelled (Count n) labels = Unit {0}
+IsLabelled (Any found) labels = Unit {0}
+IsLabelled (Total total) labels = Unit {0}
+IsLabelled (Best entries) labels = All (λ entry. AreLabelled labels entry.witness) entries
 
 -- the line of a refusal, by its number and its text
 unfoldable pub refused : ℕ → List ℕ → List ℕ
@@ -72,7 +138,6 @@ side_text false = codes ", right"
 
 -- the line of each refusal
 abbrev pub fault_text : Refusal → List ℕ
-fault_text Unbuilt = refused 1 (codes "not built yet")
 fault_text (Byte line place) =
     refused 10 (codes "line " ++ (decimal line ++ (codes ", byte " ++ (decimal place
     ++ codes ": not printable ASCII"))))

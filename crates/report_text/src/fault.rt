@@ -16,7 +16,6 @@ pub fn fault_line(alloc: Global, refusal: &Refusal) -> Result<Vec<u8>, AllocErro
     ensures { IfOk result (λ line. line.items ≡ fault_text refusal.now) }
 {
     match refusal {
-        Refusal::Unbuilt => refused(alloc, 1, b"not built yet"),
         Refusal::Byte { line, place } => byte_line(alloc, *line, *place),
         Refusal::Version { line } => at_line(alloc, 11, *line, b"not a known gta version"),
         Refusal::Grammar { line } => at_line(alloc, 12, *line, b"not in the grammar"),

@@ -5,8 +5,6 @@ use gta_text::Name;
 /// them, count from 1. Tests, and the table's rows without its header, count from 0.
 #[derive(Debug, Drop)]
 pub enum Refusal {
-    /// The job is none that is built so far.
-    Unbuilt,
     /// The first byte of the specification that is not printable ASCII.
     Byte {
         line: u32,

@@ -1,13 +1,20 @@
 //! Every refusal and every answer, with its printed bytes.
+
+ghost use Rattle.std.specs.Prelude.{◌<◌, IfOk};
+ghost use Rattle.std.specs.List.{All};
+
 use super::*;
+use best_k::{Best, Entry};
 use gta_text::Name;
+use shape_gen::Mark;
+use std::alloc::{AllocError, Global};
 use std::fmt::Write;
 use std::test::Fail;
+use witness_order::Witness;
 
 #[test]
 fn faults_of_reading(rt: HostRuntime) -> Result<(), Fail> {
-    let cases: [(Refusal, &[u8]); 8] = [
-        (Refusal::Unbuilt, b"refused 1: not built yet\n"),
+    let cases: [(Refusal, &[u8]); 7] = [
         (
             Refusal::Byte { line: 2, place: 7 },
             b"refused 10: line 2, byte 7: not printable ASCII\n",
@@ -241,8 +248,62 @@ fn reports(rt: HostRuntime) -> Result<(), Fail> {
         (Answer::Total(None), b"answer none\n"),
     ];
     for (answer, text) in cases {
-        let said = report(rt.alloc(), &answer)?;
+        let said = report(rt.alloc(), &answer, &[])?;
         assert_eq!(rt; said.as_slice(), text, "at {answer:?}");
     }
+    Ok(())
+}
+
+// The entry of these rows, which all have this label.
+fn entry_of(alloc: Global, total: i64, rows: &[u32], label: u32) -> Result<Entry, AllocError>
+    requires { label < 2 }
+    ensures { IfOk result (λ entry. All (λ mark. mark.label < 2) entry.witness) }
+{
+    let mut marks = Vec::new(alloc);
+    'rows: for row in rows {
+        marks.push(Mark { row: *row, label })?;
+    }
+    let witness = Witness::of(alloc, marks.as_slice())?;
+    Ok(Entry { total, witness })
+}
+
+#[test]
+fn best_without_labels(rt: HostRuntime) -> Result<(), Fail> {
+    let alloc = rt.alloc();
+    let cases: [(&[(i64, &[u32])], &[u8]); 4] = [
+        (&[], b"answer 0\n"),
+        (
+            &[(220, &[1, 2]), (180, &[0, 2])],
+            b"answer 2\n1 220 2 3\n2 180 1 3\n",
+        ),
+        (
+            &[(0, &[]), (0, &[0]), (0, &[1])],
+            b"answer 3\n1 0 -\n2 0 1\n3 0 2\n",
+        ),
+        (&[(-3, &[4294967295])], b"answer 1\n1 -3 4294967296\n"),
+    ];
+    for (entries, text) in cases {
+        let mut best = Vec::new(alloc);
+        for (total, rows) in entries {
+            best.push(entry_of(alloc, *total, rows, 0)?)?;
+        }
+        let said = report(alloc, &Answer::Best(Best::of(best)), &[])?;
+        assert_eq!(rt; said.as_slice(), text, "at {entries:?}");
+    }
+    Ok(())
+}
+
+#[test]
+fn best_with_labels(rt: HostRuntime) -> Result<(), Fail> {
+    let alloc = rt.alloc();
+    let labels = [Name::of(alloc, b"A")?, Name::of(alloc, b"B")?];
+    let first = entry_of(alloc, 6, &[0, 1, 2], 0)?;
+    let second = entry_of(alloc, 5, &[0], 1)?;
+    let mut entries = Vec::new(alloc);
+    entries.push(first)?;
+    entries.push(second)?;
+    let said = report(alloc, &Answer::Best(Best::of(entries)), &labels)?;
+    let text: &[u8] = b"answer 2\n1 6 1:A 2:A 3:A\n2 5 1:B\n";
+    assert_eq!(rt; said.as_slice(), text);
     Ok(())
 }

@@ -1,12 +1,12 @@
 -- The parts of lo..hi from those of lo..mid and mid..hi, the parts of no rows, and the candidates from the parts of all rows.
-use Rattle.std.proofs.Common.{◌≡◌, refl, sym, ap, ◌∙◌, subst, ℕ, zero, suc, ◌+◌, ◌-◌, ◌≤◌, List, [], ◌∷◌, ◌++◌, map, arith}
+use Rattle.std.proofs.Common.{◌≡◌, refl, sym, ap, ◌∙◌, subst, ℕ, zero, suc, ◌+◌, ◌-◌, ◌≤◌, [], ◌∷◌, ◌++◌, map, arith}
 use Rattle.std.specs.List.{range_with_len}
 use Rattle.std.specs.List.Sorted.{IsPermutation}
 use Rattle.shape_gen.specs.declared.shape.Shape.{Shape}
 use Rattle.shape_gen.specs.declared.shape.Shape.TheVariants.{Sublists, Assign, Prefixes, Suffixes, Segments}
 use Rattle.shape_gen.specs.Candidates.{run, sublists, assignments, prefixes, suffixes, segments, candidates}
-use Rattle.shape_gen.specs.Parts.{Component, Whole, Pre, Suf, Seg, wholes, part}
-use Rattle.shape_gen.proofs.Lists.{concats, concats-empty, range-append, range-shift}
+use Rattle.shape_gen.specs.Parts.{Whole, Pre, Suf, Seg, wholes, part}
+use Rattle.shape_gen.proofs.Lists.{concats}
 use Rattle.shape_gen.proofs.Splits.{run-split, sublists-split, assignments-split, prefixes-split, suffixes-split, segments-split}
 
 wholes-split : (shape : Shape) (labels first n k : ℕ)

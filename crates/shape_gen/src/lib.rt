@@ -1,9 +1,14 @@
 //! The shapes of candidates, and the candidates themselves as plain lists.
 //! specs/Candidates.antt lists them; no code here or above lists them while a job runs.
+//! How many there are, and how many marks they have, is in counting.rt.
 #![tactic(auto)]
 
+mod counting;
 mod mark;
 mod shape;
+#[cfg(test)]
+mod tests;
 
+pub use counting::{EXTENT_CAP, Extent, sizes};
 pub use mark::Mark;
 pub use shape::Shape;

@@ -1,6 +1,6 @@
 -- The first answer of a list of lines, as a loop over them finds it.
 use Rattle.std.proofs.Common.{◌≡◌, ℕ, suc, ◌+◌, ◌<◌, length, take, drop, get_or, drop-cons, add-one, List, [], ◌∷◌, ◌++◌, map, refl, sym, ap, ◌∙◌}
-use Rattle.std.proofs.lemmas.List.{take_more}
+use Rattle.std.proofs.lemmas.List.{map_push, take_more}
 use Rattle.std.specs.Prelude.{Option, Some, None}
 use Rattle.spec_rules.specs.SpecRules.{first_answer}
 
@@ -9,10 +9,6 @@ drop_at xs i x below is = rw (add-one, drop-cons xs i x) (ap (λ y. y ∷ drop (
 
 pub take_at : {A : Type 0} (xs : List A) (i : ℕ) (x : A) → i < length xs → x ≡ get_or xs i x → take (i + 1) xs ≡ take i xs ++ x ∷ []
 take_at xs i x below is = take_more xs i x below ∙ ap (λ y. take i xs ++ y ∷ []) (sym is)
-
-pub map-push : {A B : Type 0} (f : A → B) (xs : List A) (x : A) → map f (xs ++ x ∷ []) ≡ map f xs ++ f x ∷ []
-map-push f [] x = refl
-map-push f (y ∷ ys) x = rw (map-push f ys x) refl
 
 -- no line before this place got an answer
 pub record NoneBefore {A B C : Type 0} (ask : List B → B → Option C) (f : A → B) (all : List A) (i : ℕ) : Type 0 where
@@ -37,7 +33,7 @@ module _ {A B C : Type 0} {ask : List B → B → Option C} {f : A → B} {all :
         ≡ first_answer ask (map f (take i all) ++ f x ∷ []) (map f (drop (i + 1) all)) =
         rw (drop_at all i x below is, asked) refl in
         let front : map f (take i all) ++ f x ∷ [] ≡ map f (take (i + 1) all) =
-        rw (take_at all i x below is) (sym (map-push f (take i all) x)) in
+        rw (take_at all i x below is) (sym (map_push f (take i all) x)) in
         none.so_far ∙ here ∙ ap (λ before. first_answer ask before (map f (drop (i + 1) all))) front;
   }
 

@@ -1,5 +1,6 @@
 -- The rules of a specification that need no name looked up, in their order.
 use Rattle.std.specs.Prelude.{ℕ, Bool, true, false, ◌&&◌, ◌||◌, not, pos, List, [], ◌∷◌, ◌++◌, map, filter, length}
+use Rattle.std.specs.Option.{option_or}
 use Rattle.std.specs.Prelude.{nat_lt, nat_le, Option, Some, None, option_map}
 use Rattle.std.specs.List.{list_any, find, flat_map}
 use Rattle.std.specs.Int.RustNames.{int_lt}
@@ -21,15 +22,10 @@ use Rattle.spec_rules.specs.declared.fault.Limit.TheVariants as limits
 use Rattle.spec_rules.specs.declared.fault.RuleFault.{RuleFault}
 use Rattle.spec_rules.specs.declared.fault.RuleFault.TheVariants as faults
 
--- the first of two, where there is one
-abbrev pub or_else : {A : Type 0} → Option A → Option A → Option A
-or_else None second = second
-or_else (Some first) second = Some first
-
 -- the first answer that an item gets, each asked beside the items before it
 abbrev pub first_answer : {A B : Type 0} → (List A → A → Option B) → List A → List A → Option B
 first_answer ask before [] = None
-first_answer ask before (x ∷ xs) = or_else (ask before x) (first_answer ask (before ++ (x ∷ [])) xs)
+first_answer ask before (x ∷ xs) = option_or (ask before x) (first_answer ask (before ++ (x ∷ [])) xs)
 
 -- the part that stands at most once, where a line is one
 abbrev pub single_of : KindTree → Option SinglePart
@@ -259,5 +255,5 @@ limit_fault parts = first_answer limit_at [] parts
 -- the first rule that the specification breaks
 unfoldable pub rule_fault : SpecTree → Option RuleFault
 rule_fault spec =
-    or_else (option_map faults.Missing (missing spec.parts))
-    (or_else (second_part spec.parts) (or_else (labels_assign spec.parts) (limit_fault spec.parts)))
+    option_or (option_map faults.Missing (missing spec.parts))
+    (option_or (second_part spec.parts) (option_or (labels_assign spec.parts) (limit_fault spec.parts)))

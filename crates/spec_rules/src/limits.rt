@@ -171,7 +171,8 @@ fn test_limit(count: usize, part: &TestPart) -> Option<Limit>
 }
 
 fn check_limit(check: &Check) -> Option<Limit>
-    ensures of_sum { (count : ℕ) (name : List ℕ) → count < TEST_LIMIT → result ≡ passed_limit count (Test (Sum name check.now)) }
+    ensures of_sum { (count : ℕ) (name : List ℕ) → count < TEST_LIMIT
+        → result ≡ passed_limit count (Test (Sum name check.now)) }
     ensures of_length { (count : ℕ) → count < TEST_LIMIT → result ≡ passed_limit count (Test (Length check.now)) }
 {
     match *check {

@@ -4,7 +4,8 @@ ghost use Rattle.std.specs.Prelude.{◌≡◌, map};
 ghost use Rattle.std.specs.List.{list_any};
 ghost use Rattle.gta_spec.specs.Parts.{kind_tree, part_tree};
 ghost use Rattle.spec_rules.specs.declared.fault.SinglePart.TheVariants as singles;
-ghost use Rattle.spec_rules.specs.SpecRules.{first_line, is_assign, is_single, labels_assign, missing, second_part, single_of};
+ghost use Rattle.spec_rules.specs.SpecRules.{first_line, is_assign, is_single, labels_assign};
+ghost use Rattle.spec_rules.specs.SpecRules.{missing, second_part, single_of};
 
 use crate::fault::{RuleFault, SinglePart};
 use gta_spec::{Part, PartKind};

@@ -1,6 +1,7 @@
 -- The first answer that an item of a list gets, and the first negative value of a measure.
-use Rattle.std.proofs.Common.{◌≡◌, ℕ, zero, suc, ◌<◌, ℤ, pos, ◌≤ℤ◌, ◌<ℤ◌, Bool, true, false, cond}
-use Rattle.std.proofs.Common.{List, [], ◌∷◌, length, get_or, Option, Some, None, refl, sym, ap, ◌∙◌, arith}
+use Rattle.std.proofs.Common.{◌≡◌, ℕ, zero, suc, ◌+◌, ◌<◌, ℤ, pos, ◌≤ℤ◌, Bool, true, false, cond}
+use Rattle.std.specs.Option.{option_or}
+use Rattle.std.proofs.Common.{List, [], ◌∷◌, map, length, get_or, Option, Some, None, refl, sym, ap, ◌∙◌, arith}
 use Rattle.std.specs.Option.{option_map}
 use Rattle.std.specs.List.{find, range_with_len}
 use Rattle.std.specs.Int.RustNames.{int_lt}
@@ -11,25 +12,25 @@ use Rattle.gta_checked.specs.Plain.{PlainChecked}
 use Rattle.gta_meaning.specs.InRange.{label_count}
 use Rattle.gta_meaning.specs.Values.{value}
 use Rattle.gta_meaning.proofs.First.{find-range-first, find-range-none}
-use Rattle.test_homs.specs.declared.tests_of.ValueFault.{ValueFault}
-use Rattle.test_homs.specs.declared.tests_of.ValueFault.TheVariants.{Negative as NegativeFault, Memory}
-use Rattle.test_homs.specs.Negatives.{Negative, or_else, first_some, negative_label, negative_at, negative_value}
-use Rattle.test_homs.specs.Ends.{IsEndOf}
+use Rattle.gta_checked.specs.Plain.{PlainTest, plain_test}
+use Rattle.gta_checked.specs.declared.resolved.Test.{Test}
+use Rattle.test_homs.specs.declared.negatives.Negative.{Negative}
+use Rattle.test_homs.specs.Negatives.{first_some, negative_label, negative_at, negative_value, negative_of_test, negative_from, first_negative}
 
 some≢none : {A : Type 0} (x : A) → Some x ≡ None → ⊥
 some≢none x same = grind arith
 
-or_else-first_none : {A : Type 0} (first second : Option A) → or_else first second ≡ None → first ≡ None
-or_else-first_none None second none = refl
-or_else-first_none (Some x) second none = none
+option_or-first_none : {A : Type 0} (first second : Option A) → option_or first second ≡ None → first ≡ None
+option_or-first_none None second none = refl
+option_or-first_none (Some x) second none = none
 
-or_else-second_none : {A : Type 0} (first second : Option A) → or_else first second ≡ None → second ≡ None
-or_else-second_none None second none = none
-or_else-second_none (Some x) second none = absurd (some≢none x none)
+option_or-second_none : {A : Type 0} (first second : Option A) → option_or first second ≡ None → second ≡ None
+option_or-second_none None second none = none
+option_or-second_none (Some x) second none = absurd (some≢none x none)
 
-pub or_else-none : {A : Type 0} (first : Option A) → or_else first None ≡ first
-or_else-none None = refl
-or_else-none (Some x) = refl
+pub option_or-none : {A : Type 0} (first : Option A) → option_or first None ≡ first
+option_or-none None = refl
+option_or-none (Some x) = refl
 
 option_map-is_none : {A B : Type 0} (f : A → B) (o : Option A) → option_map f o ≡ None → o ≡ None
 option_map-is_none f None none = refl
@@ -40,23 +41,23 @@ module _ {A B : Type 0} (f : A → Option B) where
       → first_some f xs ≡ None
   first_some-nowhere [] none = refl
   first_some-nowhere (x ∷ xs) none =
-      ap (λ o. or_else o (first_some f xs)) (none 0 x (omega arith))
+      ap (λ o. option_or o (first_some f xs)) (none 0 x (omega arith))
       ∙ first_some-nowhere xs (λ k d below. none (suc k) d (omega arith))
 
   first_some-at : (xs : List A) (i : ℕ) (d : A) (y : B) → i < length xs
       → ((k : ℕ) → k < i → f (get_or xs k d) ≡ None) → f (get_or xs i d) ≡ Some y → first_some f xs ≡ Some y
   first_some-at [] i d y below before here = absurd (omega arith)
-  first_some-at (x ∷ xs) zero d y below before here = ap (λ o. or_else o (first_some f xs)) here
+  first_some-at (x ∷ xs) zero d y below before here = ap (λ o. option_or o (first_some f xs)) here
   first_some-at (x ∷ xs) (suc i) d y below before here =
-      ap (λ o. or_else o (first_some f xs)) (before 0 (omega arith))
+      ap (λ o. option_or o (first_some f xs)) (before 0 (omega arith))
       ∙ first_some-at xs i d y (omega arith) (λ k less. before (suc k) (omega arith)) here
 
   first_some-none : (xs : List A) → first_some f xs ≡ None
       → (k : ℕ) (d : A) → k < length xs → f (get_or xs k d) ≡ None
   first_some-none [] none k d below = absurd (omega arith)
-  first_some-none (x ∷ xs) none zero d below = or_else-first_none (f x) (first_some f xs) none
+  first_some-none (x ∷ xs) none zero d below = option_or-first_none (f x) (first_some f xs) none
   first_some-none (x ∷ xs) none (suc k) d below =
-      first_some-none xs (or_else-second_none (f x) (first_some f xs) none) k d (omega arith)
+      first_some-none xs (option_or-second_none (f x) (first_some f xs) none) k d (omega arith)
 
 find-is_none : {A : Type 0} (p : A → Bool) (xs : List A) → find p xs ≡ None
     → (k : ℕ) (d : A) → k < length xs → p (get_or xs k d) ≡ false
@@ -99,9 +100,6 @@ find-range_is_none p n none k below =
     ap p (sym (at-range n k below))
     ∙ find-is_none p (range_with_len 0 n) none k 0 (simp length-range_with_len below)
 
-test-from_negative : (v : ℤ) → v <ℤ pos 0 → int_lt v (pos 0) ≡ true
-test-from_negative v negative = grind (arith, ints)
-
 test-from_natural : (v : ℤ) → pos 0 ≤ℤ v → int_lt v (pos 0) ≡ false
 test-from_natural v natural = grind (arith, ints)
 
@@ -109,22 +107,22 @@ natural-from_test : (v : ℤ) → int_lt v (pos 0) ≡ false → pos 0 ≤ℤ v
 natural-from_test v test = grind (arith, ints)
 
 module _ (checked : PlainChecked) (rows : PlainRows) (test measure : ℕ) where
-  abbrev is_negative : ℕ → ℕ → Bool
+  abbrev pub is_negative : ℕ → ℕ → Bool
   is_negative row label = int_lt (value checked rows measure row label) (pos 0)
 
-  abbrev negative : ℕ → ℕ → Negative
+  abbrev pub negative : ℕ → ℕ → Negative
   negative row label = record { test = test; row = row; label = label; value = value checked rows measure row label }
 
   -- the first negative value of a row
   pub negative-first : (row label : ℕ) → label < label_count checked
       → ((k : ℕ) → k < label → pos 0 ≤ℤ value checked rows measure row k)
-      → value checked rows measure row label <ℤ pos 0
+      → is_negative row label ≡ true
       → negative_at checked rows test measure row ≡ Some (negative row label)
   negative-first row label below before here =
       ap (option_map (negative row))
       (find-range-first (is_negative row) (label_count checked) label below
       (λ k less. test-from_natural (value checked rows measure row k) (before k less))
-      (test-from_negative (value checked rows measure row label) here))
+      here)
 
   pub negative-nowhere : (row : ℕ)
       → ((k : ℕ) → k < label_count checked → pos 0 ≤ℤ value checked rows measure row k)
@@ -133,16 +131,6 @@ module _ (checked : PlainChecked) (rows : PlainRows) (test measure : ℕ) where
       ap (option_map (negative row))
       (find-range-none (is_negative row) (label_count checked)
       (λ k less. test-from_natural (value checked rows measure row k) (natural k less)))
-
-  -- the end of a row, after rows that have no negative value, is that of all rows
-  pub row-end : (row : ℕ) (fault : ValueFault) → row < rows.count
-      → ((k : ℕ) → k < row → negative_at checked rows test measure k ≡ None)
-      → IsEndOf (negative_at checked rows test measure row) fault
-      → IsEndOf (negative_value checked rows test measure) fault
-  row-end row (NegativeFault t r l v) below before end =
-      first_some-range_at (negative_at checked rows test measure) rows.count row
-      (record { test = t; row = r; label = l; value = v }) below before end
-  row-end row Memory below before end = tt
 
   -- where there is no negative value, all are natural
   pub natural-values : negative_value checked rows test measure ≡ None
@@ -153,3 +141,60 @@ module _ (checked : PlainChecked) (rows : PlainRows) (test measure : ℕ) where
       let no_label = option_map-is_none (negative row) (negative_label checked rows measure row) at_row in
       natural-from_test (value checked rows measure row label)
       (find-range_is_none (is_negative row) (label_count checked) no_label label label_in)
+
+-- over the tests, from a number on
+module _ (checked : PlainChecked) (rows : PlainRows) where
+  pub negative_from-nowhere : (items : List Test) (number : ℕ)
+      → ((k : ℕ) (d : Test) → k < length items
+      → negative_of_test checked rows (number + k) (plain_test (get_or items k d)) ≡ None)
+      → negative_from checked rows number (map plain_test items) ≡ None
+  negative_from-nowhere [] number none = refl
+  negative_from-nowhere (t ∷ ts) number none =
+      ap (λ o. option_or o (negative_from checked rows (number + 1) (map plain_test ts)))
+      (ap (λ n. negative_of_test checked rows n (plain_test t)) (omega arith) ∙ none 0 t (omega arith))
+      ∙ negative_from-nowhere ts (number + 1)
+      (λ k d less. ap (λ n. negative_of_test checked rows n (plain_test (get_or ts k d))) (omega arith)
+      ∙ none (suc k) d (omega arith))
+
+  pub negative_from-at : (items : List Test) (number i : ℕ) (d : Test) (y : Negative) → i < length items
+      → ((k : ℕ) → k < i → negative_of_test checked rows (number + k) (plain_test (get_or items k d)) ≡ None)
+      → negative_of_test checked rows (number + i) (plain_test (get_or items i d)) ≡ Some y
+      → negative_from checked rows number (map plain_test items) ≡ Some y
+  negative_from-at [] number i d y below before here = absurd (omega arith)
+  negative_from-at (t ∷ ts) number zero d y below before here =
+      ap (λ o. option_or o (negative_from checked rows (number + 1) (map plain_test ts)))
+      (ap (λ n. negative_of_test checked rows n (plain_test t)) (omega arith) ∙ here)
+  negative_from-at (t ∷ ts) number (suc i) d y below before here =
+      ap (λ o. option_or o (negative_from checked rows (number + 1) (map plain_test ts)))
+      (ap (λ n. negative_of_test checked rows n (plain_test t)) (omega arith) ∙ before 0 (omega arith))
+      ∙ negative_from-at ts (number + 1) i d y (omega arith)
+      (λ k less. ap (λ n. negative_of_test checked rows n (plain_test (get_or ts k d))) (omega arith)
+      ∙ before (suc k) (omega arith))
+      (ap (λ n. negative_of_test checked rows n (plain_test (get_or ts i d))) (omega arith) ∙ here)
+
+  pub negative_from-cons_none : (t : PlainTest) (ts : List PlainTest) (number : ℕ)
+      → negative_from checked rows number (t ∷ ts) ≡ None
+      → (negative_of_test checked rows number t ≡ None) × (negative_from checked rows (number + 1) ts ≡ None)
+  negative_from-cons_none t ts number none = (
+    option_or-first_none (negative_of_test checked rows number t) (negative_from checked rows (number + 1) ts) none,
+    option_or-second_none (negative_of_test checked rows number t) (negative_from checked rows (number + 1) ts) none,
+  )
+
+  pub first_negative-nowhere : (items : List Test) → map plain_test items ≡ checked.tests
+      → ((k : ℕ) (d : Test) → k < length items → negative_of_test checked rows k (plain_test (get_or items k d)) ≡ None)
+      → first_negative checked rows ≡ None
+  first_negative-nowhere items same none =
+      ap (negative_from checked rows 0) (sym same)
+      ∙ negative_from-nowhere items 0
+      (λ k d below. ap (λ n. negative_of_test checked rows n (plain_test (get_or items k d))) (omega arith) ∙ none k d below)
+
+  pub first_negative-at : (items : List Test) → map plain_test items ≡ checked.tests
+      → (i : ℕ) (d : Test) (y : Negative) → i < length items
+      → ((k : ℕ) → k < i → negative_of_test checked rows k (plain_test (get_or items k d)) ≡ None)
+      → negative_of_test checked rows i (plain_test (get_or items i d)) ≡ Some y
+      → first_negative checked rows ≡ Some y
+  first_negative-at items same i d y below before here =
+      ap (negative_from checked rows 0) (sym same)
+      ∙ negative_from-at items 0 i d y below
+      (λ k less. ap (λ n. negative_of_test checked rows n (plain_test (get_or items k d))) (omega arith) ∙ before k less)
+      (ap (λ n. negative_of_test checked rows n (plain_test (get_or items i d))) (omega arith) ∙ here)

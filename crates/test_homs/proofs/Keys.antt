@@ -1,130 +1,125 @@
--- What the key of a candidate decides: the product of letters is the total, stopped one past the bound.
-use Rattle.std.proofs.Common.{◌≡◌, ℕ, zero, suc, ◌+◌, ◌*◌, ◌<◌, min, ℤ, pos, ◌+ℤ◌, ◌≤ℤ◌, nat_abs, Bool, true, false}
-use Rattle.std.proofs.Common.{List, [], ◌∷◌, replicate, get_or, slice_index_or, All, Some, None, inl, inr, refl, sym, ap, ◌∙◌, arith}
+-- What the key of a candidate decides: its digits are the products of the tests, and each decides its test.
+use Rattle.std.proofs.Common.{◌≡◌, ℕ, ◌+◌, ◌<◌, ℤ, pos, ◌≤ℤ◌, ◌&&◌, List, [], ◌∷◌, map}
+use Rattle.std.proofs.Common.{All, None, refl, ap, ◌∙◌, arith}
 use Rattle.std.specs.List.{list_all}
 use Rattle.std.proofs.lemmas.Int.{ints}
-use Rattle.std.proofs.lemmas.List.{length-replicate}
-use Rattle.std.proofs.lemmas.List.Elements.{All-tail}
-use Rattle.std.proofs.lemmas.List.FromFn.{length-map-range_with_len, get_or-map-range_with_len}
-use Rattle.monoid_kit.specs.CappedSum.{capped_sum}
-use Rattle.monoid_kit.specs.Items.{AllElements}
+use Rattle.std.proofs.lemmas.List.Elements.{All-head, All-tail}
 use Rattle.monoid_kit.specs.Product.{product_by}
+use Rattle.monoid_kit.proofs.Products.{product_by-is_element}
+use Rattle.monoid_product.specs.Component.{PlainComponent, component_size, component_unit, component_mul}
+use Rattle.monoid_product.specs.Product.{AreDigits, key_of, digits, digit_products, product_mul, product_unit}
+use Rattle.monoid_product.proofs.Digits.{digits-key_of}
 use Rattle.shape_gen.specs.declared.mark.Mark.{Mark}
-use Rattle.gta_spec.specs.declared.parts.Cmp.{Cmp}
-use Rattle.gta_spec.specs.declared.parts.Cmp.TheVariants.{AtMost, AtLeast, Equal}
-use Rattle.gta_spec.specs.declared.parts.Check.TheVariants.{Compare}
+use Rattle.gta_spec.specs.declared.parts.Check.{Check}
+use Rattle.gta_spec.specs.declared.parts.Check.TheVariants.{Compare, Mod}
 use Rattle.gta_checked.specs.PlainRows.{PlainRows}
-use Rattle.gta_checked.specs.Plain.{Sum, PlainChecked}
+use Rattle.gta_checked.specs.Plain.{NamedTable, PlainTest, Sum, Length, Fold, PlainChecked}
+use Rattle.gta_checked.specs.Within.{IsCheckWithin, IsTestWithin, IsTableWithin}
 use Rattle.gta_meaning.specs.InRange.{IsMarkInRange, label_count}
-use Rattle.gta_meaning.specs.Values.{compares, value, total}
-use Rattle.gta_meaning.specs.Tests.{passes_test}
-use Rattle.test_homs.specs.declared.sums.ComparedSum.{ComparedSum}
-use Rattle.test_homs.specs.Homs.{key_of, accepts, Decides, ArePrepared}
-use Rattle.test_homs.specs.Negatives.{negative_value}
-use Rattle.test_homs.specs.Sums.{tests_of, letter_of, sum_letters, accepted_keys, tests_of_sum, tests_of_none}
-use Rattle.test_homs.proofs.Firsts.{natural-values}
-use Rattle.test_homs.proofs.Letters.{length-sum_letters, letter-at, keys-sum_letters}
+use Rattle.gta_meaning.specs.Tests.{meets, passes_test}
+use Rattle.gta_meaning.specs.Values.{value, sum_of}
+use Rattle.test_homs.specs.Components.{check_part, test_part}
+use Rattle.test_homs.specs.Letters.{check_digit, check_accepts, test_digit, test_accepts, all_accept}
+use Rattle.test_homs.specs.Negatives.{negative_of_test, negative_from}
+use Rattle.test_homs.proofs.Firsts.{natural-values, negative_from-cons_none}
+use Rattle.test_homs.proofs.Parts.{AreDigits-map, test_digit-below, test_part-IsMonoid}
+use Rattle.test_homs.proofs.Totals.{compares-product, meets-product, sum_of-ones}
 
-sum-stopped : (v t : ℤ) (b : ℕ) → pos 0 ≤ℤ v → pos 0 ≤ℤ t
-    → min (min (nat_abs v) (b + 1) + min (nat_abs t) (b + 1)) (b + 1) ≡ min (nat_abs (v +ℤ t)) (b + 1)
-sum-stopped v t b v_natural t_natural = omega (arith, ints)
+abbrev IsCompared : Check → Type 0
+IsCompared (Compare cmp number) = Unit {0}
+IsCompared (Mod modulus residue) = ⊥
 
--- a natural total compares with the bound as its key does
-stopped-compares : (cmp : Cmp) (t : ℤ) (b : ℕ) → pos 0 ≤ℤ t
-    → compares cmp (pos (min (nat_abs t) (b + 1))) (pos b) ≡ compares cmp t (pos b)
-stopped-compares AtMost t b natural = grind (arith, ints)
-stopped-compares AtLeast t b natural = grind (arith, ints)
-stopped-compares Equal t b natural = grind (arith, ints)
+-- products of digits, test by test
+module _ (tables : List NamedTable) where
+  units-map : (tests : List PlainTest)
+      → map component_unit (map (test_part tables) tests) ≡ map (λ t. component_unit (test_part tables t)) tests
+  units-map [] = refl
+  units-map (t ∷ ts) = ap (λ us. component_unit (test_part tables t) ∷ us) (units-map ts)
 
-module _ (checked : PlainChecked) (rows : PlainRows) (measure bound : ℕ)
-    (natural : (row label : ℕ) → row < rows.count → label < label_count checked
-    → pos 0 ≤ℤ value checked rows measure row label) where
-  abbrev AllInRange : List Mark → Type 0
-  AllInRange c = All (IsMarkInRange rows.count (label_count checked)) c
+  digit_products-map : (f g : PlainTest → ℕ) (tests : List PlainTest)
+      → digit_products (map (test_part tables) tests) (map f tests) (map g tests)
+      ≡ map (λ t. component_mul (test_part tables t) (f t) (g t)) tests
+  digit_products-map f g [] = refl
+  digit_products-map f g (t ∷ ts) =
+      ap (λ ds. component_mul (test_part tables t) (f t) (g t) ∷ ds) (digit_products-map f g ts)
 
-  total-natural : (c : List Mark) → AllInRange c → pos 0 ≤ℤ total checked rows measure c
-  total-natural [] in_range = omega (arith, ints)
-  total-natural (m ∷ ms) in_range =
-      let mark_in : IsMarkInRange rows.count (label_count checked) m = in_range 0 m (omega arith) in
-      let here = natural m.row m.label mark_in.row mark_in.label in
-      let rest = total-natural ms (All-tail (IsMarkInRange rows.count (label_count checked)) m ms in_range) in
-      omega (arith, ints, here, rest)
+module _ (checked : PlainChecked) (rows : PlainRows) (columns labels measures : ℕ)
+    (lawful : All IsTableWithin checked.tables) where
+  abbrev Within : PlainTest → Type 0
+  Within test = IsTestWithin columns labels measures checked.tables test
 
-  abbrev letter : Mark → ℕ
-  letter m = slice_index_or (sum_letters checked rows measure bound) (m.row * label_count checked + m.label) 0
+  abbrev part : PlainTest → PlainComponent
+  part test = test_part checked.tables test
 
-  product-total : (c : List Mark) → AllInRange c
-      → product_by 0 (capped_sum bound) letter c ≡ letter_of bound (total checked rows measure c)
-  product-total [] in_range = omega arith
-  product-total (m ∷ ms) in_range =
-      let here = value checked rows measure m.row m.label in
-      let mark_in : IsMarkInRange rows.count (label_count checked) m = in_range 0 m (omega arith) in
-      let rest_in = All-tail (IsMarkInRange rows.count (label_count checked)) m ms in_range in
-      ap (λ k. capped_sum bound k (product_by 0 (capped_sum bound) letter ms))
-      (letter-at checked rows measure bound m.row m.label mark_in.row mark_in.label)
-      ∙ ap (capped_sum bound (letter_of bound here)) (product-total ms rest_in)
-      ∙ sum-stopped here (total checked rows measure ms) bound
-      (natural m.row m.label mark_in.row mark_in.label) (total-natural ms rest_in)
+  abbrev digit : PlainTest → Mark → ℕ
+  digit test m = test_digit checked rows m.row m.label test
 
-list_all-one : {A : Type 0} (p : A → Bool) (x : A) → list_all p (x ∷ []) ≡ p x
-list_all-one p x = by_test (p x)
-  where
-    by_test : (t : Bool) → list_all (λ (u : Bool). u) (t ∷ []) ≡ t
-    by_test true = refl
-    by_test false = refl
+  -- the product of a test's digits
+  abbrev pub test_product : List Mark → PlainTest → ℕ
+  test_product c test = product_by (component_unit (part test)) (component_mul (part test)) (digit test) c
 
-module _ (checked : PlainChecked) (rows : PlainRows) (sum : ComparedSum)
-    (the_test : checked.tests ≡ tests_of (Some sum))
-    (none : negative_value checked rows 0 sum.measure ≡ None) where
-  abbrev is_accepted : ℕ → Bool
-  is_accepted key = compares sum.cmp (pos key) (pos sum.bound)
+  test_product-below : (c : List Mark) (test : PlainTest) → Within test → test_product c test < component_size (part test)
+  test_product-below c test within =
+      product_by-is_element (test_part-IsMonoid columns labels measures checked.tables lawful test within)
+      (digit test) c (λ m m_in. test_digit-below checked rows columns labels measures lawful m.row m.label test within)
 
-  sum-decides : Decides checked rows (tests_of_sum checked rows sum)
-  sum-decides c in_range =
-      let natural = natural-values checked rows 0 sum.measure none in
-      let sum_of_marks = total checked rows sum.measure c in
-      let key = letter_of sum.bound sum_of_marks in
-      ap (λ k. slice_index_or (accepted_keys sum.cmp sum.bound) k false)
-      (product-total checked rows sum.measure sum.bound natural c in_range.each)
-      ∙ get_or-map-range_with_len is_accepted 0 (sum.bound + 2) key key false (omega arith) (omega arith)
-      ∙ stopped-compares sum.cmp sum_of_marks sum.bound
-      (total-natural checked rows sum.measure sum.bound natural c in_range.each)
-      ∙ sym (list_all-one (passes_test checked rows c) (Sum sum.measure (Compare sum.cmp (pos sum.bound))))
-      ∙ ap (list_all (passes_test checked rows c)) (sym the_test)
+  module _ (tests : List PlainTest) (all_within : All Within tests) where
+    abbrev parts : List PlainComponent
+    parts = map part tests
 
-  pub sum-ArePrepared : ArePrepared checked rows (tests_of_sum checked rows sum)
-  sum-ArePrepared = record {
-    count = length-sum_letters checked rows sum.measure sum.bound;
-    keys = keys-sum_letters checked rows sum.measure sum.bound;
-    accept = length-map-range_with_len is_accepted 0 (sum.bound + 2);
-    decides = sum-decides;
-  }
+    abbrev letter_at : Mark → ℕ
+    letter_at m = key_of parts (map (λ t. digit t m) tests)
 
--- letters that are all 0
-zero-at : (n place : ℕ) → get_or (replicate n 0) place 0 ≡ zero
-zero-at zero place = refl
-zero-at (suc n) zero = refl
-zero-at (suc n) (suc place) = zero-at n place
+    pub products-AreDigits : (c : List Mark) → AreDigits parts (map (test_product c) tests)
+    products-AreDigits c =
+        AreDigits-map columns labels measures checked.tables lawful (test_product c) (test_product-below c) tests all_within
 
-zeros-below : (n : ℕ) → AllElements (λ key. key < 2) (λ key. key) (replicate n 0)
-zeros-below zero key key_in = absurd key_in
-zeros-below (suc n) key (inl same) = omega (arith, same)
-zeros-below (suc n) key (inr later) = zeros-below n key later
+    -- the product of letters is the key of the products of digits
+    pub product-letters : (c : List Mark)
+        → product_by (product_unit parts) (product_mul parts) letter_at c ≡ key_of parts (map (test_product c) tests)
+    product-letters [] = ap (key_of parts) (units-map checked.tables tests)
+    product-letters (m ∷ ms) =
+        let here = digits-key_of parts (map (λ t. digit t m) tests)
+        (AreDigits-map columns labels measures checked.tables lawful (λ t. digit t m)
+        (λ t within. test_digit-below checked rows columns labels measures lawful m.row m.label t within) tests all_within) in
+        let rest = digits-key_of parts (map (test_product ms) tests) (products-AreDigits ms) in
+        ap (product_mul parts (letter_at m)) (product-letters ms)
+        ∙ ap (λ ds. key_of parts (digit_products parts ds (digits parts (key_of parts (map (test_product ms) tests))))) here
+        ∙ ap (λ ds. key_of parts (digit_products parts (map (λ t. digit t m) tests) ds)) rest
+        ∙ ap (key_of parts) (digit_products-map checked.tables (λ t. digit t m) (test_product ms) tests)
 
-module _ (checked : PlainChecked) (rows : PlainRows) (no_test : checked.tests ≡ tests_of None) where
-  product-zero : (c : List Mark) → key_of (tests_of_none checked rows) (label_count checked) c ≡ 0
-  product-zero [] = refl
-  product-zero (m ∷ ms) =
-      let here = zero-at (rows.count * label_count checked) (m.row * label_count checked + m.label) in
-      let rest = product-zero ms in
-      omega (arith, here, rest)
+  -- each digit decides its test
+  module _ (c : List Mark) (in_range : All (IsMarkInRange rows.count (label_count checked)) c) where
+    check-decides : (check : Check) (f : Mark → ℤ) → (IsCompared check → All (λ m. pos 0 ≤ℤ f m) c)
+        → IsCheckWithin check
+        → check_accepts check (product_by (component_unit (check_part check)) (component_mul (check_part check))
+        (λ m. check_digit check (f m)) c) ≡ meets check (sum_of (map f c))
+    check-decides (Compare cmp number) f natural within = compares-product f cmp number c within.0 (natural tt)
+    check-decides (Mod modulus residue) f natural within =
+        meets-product modulus (let below = within.1 in omega arith) f residue c
 
-  pub none-ArePrepared : ArePrepared checked rows (tests_of_none checked rows)
-  none-ArePrepared = record {
-    count = length-replicate (rows.count * label_count checked) 0;
-    keys = zeros-below (rows.count * label_count checked);
-    accept = refl;
-    decides = λ c in_range.
-        ap (accepts (tests_of_none checked rows)) (product-zero c)
-        ∙ ap (list_all (passes_test checked rows c)) (sym no_test);
-  }
+    test-decides : (number : ℕ) (test : PlainTest) → Within test → negative_of_test checked rows number test ≡ None
+        → test_accepts test (test_product c test) ≡ passes_test checked rows c test
+    test-decides number (Sum measure check) within none =
+        check-decides check (λ m. value checked rows measure m.row m.label) (values_natural check none) within.1
+      where
+        values_natural : (k : Check) → negative_of_test checked rows number (Sum measure k) ≡ None → IsCompared k
+            → All (λ m. pos 0 ≤ℤ value checked rows measure m.row m.label) c
+        values_natural (Compare cmp bound) found compared = λ k d below.
+            let m_in = in_range k d below in
+            natural-values checked rows number measure found _ _ m_in.row m_in.label
+        values_natural (Mod modulus residue) found compared = absurd compared
+    test-decides number (Length check) within none =
+        check-decides check (λ m. pos 1) (λ compared k d below. omega (arith, ints)) within
+        ∙ ap (meets check) (sum_of-ones c)
+    test-decides number (Fold table picks accept) within none = refl
+
+    pub tests-decide : (tests : List PlainTest) (number : ℕ) → All Within tests → negative_from checked rows number tests ≡ None
+        → all_accept tests (map (test_product c) tests) ≡ list_all (passes_test checked rows c) tests
+    tests-decide [] number within none = refl
+    tests-decide (t ∷ ts) number within none =
+        let both = negative_from-cons_none checked rows t ts number none in
+        ap (λ b. b && all_accept ts (map (test_product c) ts))
+        (test-decides number t (All-head Within t ts within) both.0)
+        ∙ ap (λ b. passes_test checked rows c t && b)
+        (tests-decide ts (number + 1) (All-tail Within t ts within) both.1)

@@ -1,3 +1,6 @@
 pub mod Firsts
-pub mod Letters
+pub mod Pieces
+pub mod Totals
+pub mod Parts
 pub mod Keys
+pub mod Preparations

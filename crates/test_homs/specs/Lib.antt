@@ -1,4 +1,6 @@
+pub mod Sizes
+pub mod Components
+pub mod Letters
 pub mod Homs
 pub mod Negatives
 pub mod Ends
-pub mod Sums

@@ -1,5 +1,6 @@
 -- The first negative value of a compared sum, by test, row and label.
-use Rattle.std.specs.Prelude.{ℕ, ◌+◌, ℤ, pos, List, [], ◌∷◌, Option, Some, None, option_map}
+use Rattle.std.specs.Prelude.{ℕ, ◌+◌, pos, List, [], ◌∷◌, Option, None, option_map}
+use Rattle.std.specs.Option.{option_or}
 use Rattle.std.specs.List.{find, range_with_len}
 use Rattle.std.specs.Int.RustNames.{int_lt}
 use Rattle.gta_spec.specs.declared.parts.Check.{Check}
@@ -8,23 +9,12 @@ use Rattle.gta_checked.specs.PlainRows.{PlainRows}
 use Rattle.gta_checked.specs.Plain.{PlainTest, Sum, PlainChecked}
 use Rattle.gta_meaning.specs.InRange.{label_count}
 use Rattle.gta_meaning.specs.Values.{value}
-
--- a test's number, a row, a label and the value there
-pub record Negative : Type 0 where
-  pub test : ℕ
-  pub row : ℕ
-  pub label : ℕ
-  pub value : ℤ
-
--- the first answer, and the second where there is none
-abbrev pub or_else : {A : Type 0} → Option A → Option A → Option A
-or_else None second = second
-or_else (Some first) second = Some first
+use Rattle.test_homs.specs.declared.negatives.Negative.{Negative}
 
 -- the first answer that an item gets
 abbrev pub first_some : {A B : Type 0} → (A → Option B) → List A → Option B
 first_some f [] = None
-first_some f (x ∷ xs) = or_else (f x) (first_some f xs)
+first_some f (x ∷ xs) = option_or (f x) (first_some f xs)
 
 -- the first label with which a row's value is negative
 abbrev pub negative_label : PlainChecked → PlainRows → ℕ → ℕ → Option ℕ
@@ -59,7 +49,7 @@ negative_of_test checked rows test _ = None
 abbrev pub negative_from : PlainChecked → PlainRows → ℕ → List PlainTest → Option Negative
 negative_from checked rows number [] = None
 negative_from checked rows number (test ∷ tests) =
-    or_else (negative_of_test checked rows number test) (negative_from checked rows (number + 1) tests)
+    option_or (negative_of_test checked rows number test) (negative_from checked rows (number + 1) tests)
 
 -- the first negative value of a compared sum
 abbrev pub first_negative : PlainChecked → PlainRows → Option Negative

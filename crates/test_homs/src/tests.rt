@@ -1,20 +1,21 @@
-//! Worked examples by hand: letters, accepted keys, and first negative values.
+//! Worked examples by hand: letters, accepted keys, first negative values, and too many keys.
 //! One specification serves all: a column v, labels A and B, and measures v and
 //! turned = 3*v if label A ; -1*v.
 
-ghost use Rattle.std.specs.Prelude.{◌≡◌, ◌<◌, ◌≤◌, All, IsTrue, IfOk, length, map};
+ghost use Rattle.std.specs.Prelude.{[], ◌≡◌, ◌<◌, ◌≤◌, ◌≤ℤ◌, pos, All, IsTrue, IfOk, length, map};
 ghost use Rattle.std.specs.List.{list_all};
 ghost use Rattle.gta_checked.specs.Cells.{is_cell};
-ghost use Rattle.gta_checked.specs.Plain.{plain_case, plain_measure, plain_test};
+ghost use Rattle.gta_checked.specs.Plain.{plain_case, plain_measure, plain_named, plain_pick, plain_test};
 ghost use Rattle.gta_checked.specs.Within.{IsAtomWithin, IsCaseWithin, IsMeasureWithin};
-ghost use Rattle.gta_checked.specs.Within.{IsTermWithin, IsTestWithin};
+ghost use Rattle.gta_checked.specs.Within.{IsPickWithin, IsTermWithin, IsTestWithin};
 ghost use Rattle.gta_meaning.specs.InRange.{HasColumnsOf};
-ghost use Rattle.test_homs.specs.Homs.{AreBuilt};
+ghost use Rattle.monoid_kit.specs.TableOf.{plain_table};
 
 use super::*;
-use gta_checked::{Atom, Case, Checked, Goal, Measure, Rows, Term, Test};
+use gta_checked::{Atom, Case, Checked, Goal, Measure, Pick, Rows, Table, Term, Test};
 use gta_spec::{Check, Cmp, ColumnItem, ROW_LIMIT};
 use gta_text::Name;
+use monoid_kit::{Monoid, RawTable, check_table};
 use shape_gen::Shape;
 use std::alloc::{AllocError, Global};
 use std::test::Fail;
@@ -81,11 +82,11 @@ fn turned(alloc: Global) -> Result<Measure, AllocError>
     Ok(Measure { cases })
 }
 
+// A specification with these tests, and no table.
 fn spec_of(alloc: Global, tests: Vec<Test>) -> Result<Checked, AllocError>
-    requires few { length (map plain_test tests.items) ≤ 1 }
-    requires within { All (IsTestWithin 1 2 2) (map plain_test tests.items) }
+    requires few { length (map plain_test tests.items) ≤ 8 }
+    requires within { All (IsTestWithin 1 2 2 []) (map plain_test tests.items) }
     ensures columns { IfOk result (λ checked. length checked.columns ≡ 1) }
-    ensures tests { IfOk result (λ checked. checked.tests ≡ map plain_test tests.items) }
 {
     let mut columns = Vec::new(alloc);
     columns.push(ColumnItem {
@@ -103,6 +104,7 @@ fn spec_of(alloc: Global, tests: Vec<Test>) -> Result<Checked, AllocError>
         columns,
         labels,
         measures,
+        Vec::new(alloc),
         tests,
         Shape::Assign,
         Goal::Count,
@@ -112,7 +114,6 @@ fn spec_of(alloc: Global, tests: Vec<Test>) -> Result<Checked, AllocError>
 fn summed(alloc: Global, measure: u32, cmp: Cmp) -> Result<Checked, AllocError>
     requires { measure < 2 }
     ensures columns { IfOk result (λ checked. length checked.columns ≡ 1) }
-    ensures built { IfOk result (λ checked. AreBuilt checked.tests) }
 {
     let check = Check::Compare { cmp, number: 2 };
     let mut tests = Vec::new(alloc);
@@ -120,11 +121,38 @@ fn summed(alloc: Global, measure: u32, cmp: Cmp) -> Result<Checked, AllocError>
     spec_of(alloc, tests)
 }
 
-fn untested(alloc: Global) -> Result<Checked, AllocError>
+// sum v <= number, then length mod 2 = 1
+fn summed_and_counted(alloc: Global, number: i64) -> Result<Checked, AllocError>
+    requires natural { pos 0 ≤ℤ number }
+    requires small { number ≤ℤ pos 8190 }
     ensures columns { IfOk result (λ checked. length checked.columns ≡ 1) }
-    ensures built { IfOk result (λ checked. AreBuilt checked.tests) }
 {
-    spec_of(alloc, Vec::new(alloc))
+    let cmp = Cmp::AtMost;
+    let check = Check::Compare { cmp, number };
+    let mut tests = Vec::new(alloc);
+    tests.push(Test::Sum { measure: V, check })?;
+    let check = Check::Mod {
+        modulus: 2,
+        residue: 1,
+    };
+    tests.push(Test::Length { check })?;
+    spec_of(alloc, tests)
+}
+
+// turned mod 3 = 2
+fn remainders(alloc: Global) -> Result<Checked, AllocError>
+    ensures columns { IfOk result (λ checked. length checked.columns ≡ 1) }
+{
+    let check = Check::Mod {
+        modulus: 3,
+        residue: 2,
+    };
+    let mut tests = Vec::new(alloc);
+    tests.push(Test::Sum {
+        measure: TURNED,
+        check,
+    })?;
+    spec_of(alloc, tests)
 }
 
 #[test]
@@ -138,7 +166,7 @@ fn values_stop_one_past_the_bound(rt: HostRuntime) -> Result<(), Fail> {
     for (cmp, accept) in cases {
         let checked = summed(rt.alloc(), V, cmp)?;
         let tests = prepare_tests(rt.alloc(), &checked, &rows).expect(&rt, "natural values");
-        assert_eq!(rt; tests.bound(), 2, "at {cmp:?}");
+        assert_eq!(rt; tests.product().size(), 4, "at {cmp:?}");
         assert_eq!(rt;
             tests.letters(),
             [1, 1, 3, 3, 0, 0].as_slice(),
@@ -152,11 +180,35 @@ fn values_stop_one_past_the_bound(rt: HostRuntime) -> Result<(), Fail> {
 #[test]
 fn without_a_test_every_key_is_accepted(rt: HostRuntime) -> Result<(), Fail> {
     let rows = rows_of(rt.alloc(), &[1, -5])?;
-    let checked = untested(rt.alloc())?;
+    let checked = spec_of(rt.alloc(), Vec::new(rt.alloc()))?;
     let tests = prepare_tests(rt.alloc(), &checked, &rows).expect(&rt, "no test");
-    assert_eq!(rt; tests.bound(), 0);
+    assert_eq!(rt; tests.product().size(), 1);
     assert_eq!(rt; tests.letters(), [0, 0, 0, 0].as_slice());
-    assert_eq!(rt; tests.accept(), [true, true].as_slice());
+    assert_eq!(rt; tests.accept(), [true].as_slice());
+    Ok(())
+}
+
+#[test]
+fn the_first_test_has_the_most_significant_digit(rt: HostRuntime) -> Result<(), Fail> {
+    let rows = rows_of(rt.alloc(), &[1, 5, 0])?;
+    let checked = summed_and_counted(rt.alloc(), 1)?;
+    let tests = prepare_tests(rt.alloc(), &checked, &rows).expect(&rt, "natural values");
+    assert_eq!(rt; tests.product().size(), 6);
+    assert_eq!(rt; tests.letters(), [3, 3, 5, 5, 1, 1].as_slice());
+    assert_eq!(rt;
+        tests.accept(),
+        [false, true, false, true, false, false].as_slice()
+    );
+    Ok(())
+}
+
+#[test]
+fn remainders_of_negative_values_are_natural(rt: HostRuntime) -> Result<(), Fail> {
+    let rows = rows_of(rt.alloc(), &[1, -4])?;
+    let checked = remainders(rt.alloc())?;
+    let tests = prepare_tests(rt.alloc(), &checked, &rows).expect(&rt, "any values");
+    assert_eq!(rt; tests.letters(), [0, 2, 0, 1].as_slice());
+    assert_eq!(rt; tests.accept(), [false, false, true].as_slice());
     Ok(())
 }
 
@@ -182,6 +234,33 @@ fn the_first_negative_value_refuses(rt: HostRuntime) -> Result<(), Fail> {
             }),
             "at {cells:?}"
         );
+    }
+    Ok(())
+}
+
+#[test]
+fn too_many_keys_are_told_where_no_value_is_negative(rt: HostRuntime) -> Result<(), Fail> {
+    let negative = ValueFault::Negative {
+        test: 0,
+        row: 0,
+        label: 0,
+        value: -1,
+    };
+    let cases: [(i64, i64, Option<ValueFault>); 3] = [
+        (4094, 1, None),
+        (4095, 1, Some(ValueFault::TooManyKeys { keys: 8194 })),
+        (4095, -1, Some(negative)),
+    ];
+    for (bound, cell, fault) in cases {
+        if bound >= 0 && bound <= 8190 {
+            let rows = rows_of(rt.alloc(), &[cell])?;
+            let checked = summed_and_counted(rt.alloc(), bound)?;
+            assert_eq!(rt;
+                prepare_tests(rt.alloc(), &checked, &rows).err(),
+                fault,
+                "at {bound} and {cell}"
+            );
+        }
     }
     Ok(())
 }

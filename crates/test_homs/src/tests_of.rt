@@ -1,34 +1,52 @@
 //! The tests of a job as letters for its rows and labels, and the keys that are accepted.
 
-ghost use Rattle.std.specs.Prelude.{◌≡◌, ◌≤◌, ◌<◌, length, None, IfOk, IfErr, OnOk};
+ghost use Rattle.std.specs.Prelude.{◌≡◌, ◌≤◌, ◌<◌, ◌+◌, ◌*◌, length, None, slice_index_or};
+ghost use Rattle.std.specs.Prelude.{IfOk, IfErr, OnOk};
 ghost use Rattle.gta_checked.specs.PlainRows.{plain_rows};
 ghost use Rattle.gta_meaning.specs.InRange.{HasColumnsOf};
-ghost use Rattle.test_homs.specs.Homs.{AreBuilt, ArePrepared};
-ghost use Rattle.test_homs.specs.Negatives.{first_negative, negative_value};
-ghost use Rattle.test_homs.specs.Sums.{tests_of_none, tests_of_sum};
+ghost use Rattle.monoid_product.specs.ProductOf.{plain_parts};
+ghost use Rattle.test_homs.specs.Homs as homs;
+ghost use Rattle.test_homs.specs.Homs.{ArePrepared};
+ghost use Rattle.test_homs.specs.Components.{test_parts};
+ghost use Rattle.test_homs.specs.Letters.{prepared};
+ghost use Rattle.test_homs.specs.Negatives.{first_negative};
+ghost use Rattle.test_homs.specs.Sizes.{key_count};
 ghost use Rattle.test_homs.specs.declared.tests_of.ValueFault.TheVariants.{Memory};
 ghost use Rattle.test_homs.specs.Ends.{IsEndOf};
+ghost use Rattle.monoid_product.specs.declared.product.TheConstants.{KEY_LIMIT};
 
-use crate::sums::{ComparedSum, accepted_keys, compared_sum, letter_count, sum_letters};
+use crate::accepts::accepted_keys;
+use crate::components::test_parts;
+use crate::letters::all_letters;
+use crate::negatives::first_negative;
 use gta_checked::{Checked, Rows};
-use gta_spec::{BOUND_LIMIT, ROW_LIMIT};
+use gta_meaning::label_count;
+use gta_spec::ROW_LIMIT;
+use monoid_product::{Product, TooLarge, product_of};
 use std::alloc::{AllocError, AllocFailed, Global};
 use std::marker::Model;
 
-/// A letter for each row and label, and which keys are accepted. Keys are sums that stop one past a bound.
-#[derive(Debug, Drop)]
+/// The monoid of the keys, a letter for each row and label, and which keys are accepted.
+#[derive(Drop)]
 pub struct Tests {
-    bound: u32,
+    product: Product,
+    labels: u32,
     letters: Vec<u32>,
     accept: Vec<bool>,
 }
 
 impl Model for Tests {
+    ghost use Rattle.monoid_product.specs.ProductOf.{plain_parts};
     ghost use Rattle.test_homs.specs.Homs.{PlainTests};
 
     ghost Value = { PlainTests };
 
-    ghost view = { λ tests. record { bound = tests.bound; letters = tests.letters.items; accept = tests.accept.items } };
+    ghost view = { λ tests. record {
+      parts = plain_parts tests.product;
+      labels = tests.labels;
+      letters = tests.letters.items;
+      accept = tests.accept.items;
+    } };
 }
 
 /// Why tests have no letters.
@@ -40,6 +58,10 @@ pub enum ValueFault {
         row: u32,
         label: u32,
         value: i128,
+    },
+    /// The tests have so many keys together, more than 8,192.
+    TooManyKeys {
+        keys: u128,
     },
     /// Memory was wanting.
     Memory,
@@ -61,80 +83,87 @@ impl<T: Drop> From<AllocFailed<T>> for ValueFault {
     }
 }
 
+/// Each reader takes no memory.
 impl Tests {
-    /// The bound past which the keys stop; there are two keys more. Takes no memory.
-    pub fn bound(&self) -> u32
-        ensures { result ≡ self.now.bound }
+    /// The monoid in which the letters are multiplied.
+    pub fn product(&self) -> &Product
+        ensures { plain_parts result.now ≡ self.now.parts }
     {
-        self.bound
+        &self.product
     }
 
-    /// The letters by row, and then by label. Takes no memory.
+    /// The letters by row, and then by label.
     pub fn letters(&self) -> &[u32]
         ensures { result.now ≡ self.now.letters }
     {
         &self.letters
     }
 
-    /// Which keys are accepted. Takes no memory.
+    /// Which keys are accepted.
     pub fn accept(&self) -> &[bool]
         ensures { result.now ≡ self.now.accept }
     {
         &self.accept
     }
-}
 
-/// The letters of the rows and labels for the tests of a checked specification, and the keys that they
-/// accept. Each value is looked at once. Refused at the first negative value of a compared sum, by test,
-/// row and label.
-pub fn prepare_tests(alloc: Global, checked: &Checked, rows: &Rows) -> Result<Tests, ValueFault>
-    requires built { AreBuilt checked.now.tests }
-    requires columns { HasColumnsOf checked.now (plain_rows rows.now) }
-    requires few { rows.now.count ≤ ROW_LIMIT }
-    ensures accepted { OnOk result (first_negative checked.now (plain_rows rows.now) ≡ None) }
-    ensures prepared { IfOk result (ArePrepared checked.now (plain_rows rows.now)) }
-    ensures small { IfOk result (λ tests. tests.bound ≤ BOUND_LIMIT) }
-    ensures refused { IfErr result (IsEndOf (first_negative checked.now (plain_rows rows.now))) }
-{
-    match compared_sum(checked) {
-        None => no_tests(alloc, checked, rows),
-        Some(sum) => sum_tests(alloc, checked, rows, sum),
+    /// The letter of a row with a label.
+    pub fn letter(&self, row: u32, label: u32) -> u32
+        requires in_range { row * self.now.labels + label < length self.now.letters }
+        ensures { result ≡ slice_index_or self.now.letters (row * self.now.labels + label) 0 }
+    {
+        self.letters[row as usize * self.labels as usize + label as usize]
+    }
+
+    /// Whether a key is accepted.
+    pub fn accepts(&self, key: u32) -> bool
+        requires is_key { key < length self.now.accept }
+        ensures { result ≡ homs.accepts self.now key }
+    {
+        self.accept[key as usize]
     }
 }
 
-// All letters 0: each key is 0, and accepted.
-fn no_tests(alloc: Global, checked: &Checked, rows: &Rows) -> Result<Tests, ValueFault>
-    requires { rows.now.count ≤ ROW_LIMIT }
-    ensures prepared { IfOk result (λ tests. tests ≡ tests_of_none checked.now (plain_rows rows.now)) }
-    ensures refused { IfErr result (λ fault. fault ≡ Memory) }
+/// The letters of the rows and labels for the tests of a checked specification, and the keys that they
+/// accept. Refused at the first negative value of a compared sum, by test, row and label; and where there
+/// is none, where the tests have more than 8,192 keys together.
+pub fn prepare_tests(alloc: Global, checked: &Checked, rows: &Rows) -> Result<Tests, ValueFault>
+    requires columns { HasColumnsOf checked.now (plain_rows rows.now) }
+    requires few { rows.now.count ≤ ROW_LIMIT }
+    ensures natural { OnOk result (first_negative checked.now (plain_rows rows.now) ≡ None) }
+    ensures small { OnOk result (key_count checked.now ≤ KEY_LIMIT) }
+    ensures prepared { IfOk result (ArePrepared checked.now (plain_rows rows.now)) }
+    ensures refused { IfErr result (IsEndOf checked.now (plain_rows rows.now)) }
 {
-    let letters = vec![in alloc; 0; letter_count(checked, rows) as usize]?;
-    let accept = vec![in alloc; true, true]?;
-    Ok(Tests {
-        bound: 0,
-        letters,
-        accept,
-    })
+    if let Some(negative) = first_negative(checked, rows) {
+        return Err(ValueFault::Negative {
+            test: negative.test,
+            row: negative.row,
+            label: negative.label,
+            value: negative.value,
+        });
+    }
+    match product_of(test_parts(alloc, checked)?) {
+        Ok(product) => Ok(tests_in(alloc, checked, rows, product)?),
+        Err(TooLarge { keys }) => Err(ValueFault::TooManyKeys { keys }),
+    }
 }
 
-fn sum_tests(
+fn tests_in(
     alloc: Global,
     checked: &Checked,
     rows: &Rows,
-    sum: ComparedSum,
-) -> Result<Tests, ValueFault>
+    product: Product,
+) -> Result<Tests, AllocError>
     requires columns { HasColumnsOf checked.now (plain_rows rows.now) }
     requires few { rows.now.count ≤ ROW_LIMIT }
-    requires measure_in_range { sum.measure < length checked.now.measures }
-    requires small { sum.bound ≤ BOUND_LIMIT }
-    ensures natural { OnOk result (negative_value checked.now (plain_rows rows.now) 0 sum.measure ≡ None) }
-    ensures prepared { IfOk result (λ tests. tests ≡ tests_of_sum checked.now (plain_rows rows.now) sum) }
-    ensures refused { IfErr result (IsEndOf (negative_value checked.now (plain_rows rows.now) 0 sum.measure)) }
+    requires product { plain_parts product ≡ test_parts checked.now }
+    ensures { IfOk result (λ tests. tests ≡ prepared checked.now (plain_rows rows.now)) }
 {
-    let letters = sum_letters(alloc, checked, rows, sum.measure, sum.bound)?;
-    let accept = accepted_keys(alloc, sum.cmp, sum.bound)?;
+    let letters = all_letters(alloc, checked, rows, &product)?;
+    let accept = accepted_keys(alloc, checked, &product)?;
     Ok(Tests {
-        bound: sum.bound,
+        product,
+        labels: label_count(checked),
         letters,
         accept,
     })

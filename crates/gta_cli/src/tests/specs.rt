@@ -8,7 +8,7 @@ use std::test::Fail;
 // A specification, and the line of its first refusal.
 #[test]
 fn refusals_in_their_order(rt: HostRuntime) -> Result<(), Fail> {
-    let cases: [(&[u8], &[u8]); 36] = [
+    let cases: [(&[u8], &[u8]); 42] = [
         (
             b"gta 2\ncolumns v # \xc3\n",
             b"refused 10: line 2, byte 13: not printable ASCII\n",
@@ -37,6 +37,10 @@ fn refusals_in_their_order(rt: HostRuntime) -> Result<(), Fail> {
         ),
         (
             b"gta 1\ncolumns v\ngenerate sublists\n",
+            b"refused 14: no line rows\n",
+        ),
+        (
+            b"gta 1\ncolumns v\ngenerate sublists\naggregate max w\n",
             b"refused 14: no line rows\n",
         ),
         (
@@ -133,12 +137,38 @@ fn refusals_in_their_order(rt: HostRuntime) -> Result<(), Fail> {
             b"refused 25: line 3: limit modulus\n",
         ),
         (
-            b"gta 1\ncolumns v\ntable t unit e elements e\ntest length <= 8191\ngenerate suffixes\naggregate count\nrows\n",
+            b"gta 1\ncolumns v\ntable t unit e elements e\ntest length <= 8191\n\
+              generate suffixes\naggregate count\nrows\n",
             b"refused 25: line 4: limit bound\n",
         ),
         (
             b"gta 1\ncolumns v\ntable t unit e elements e\ngenerate suffixes\naggregate count\nrows\n",
-            b"refused 1: not built yet\n",
+            b"refused 28: table t: not square at e\n",
+        ),
+        (
+            b"gta 1\ncolumns v\ngenerate sublists\ntable t unit e elements e a\ntimes t e = e a\n\
+              test fold t by a accept e\naggregate count\nrows\nv\n",
+            b"refused 28: table t: not square at a\n",
+        ),
+        (
+            b"gta 1\ncolumns v\ngenerate sublists\ntable t unit e elements e a b\ntimes t e = e a b\n\
+              times t a = a b a\ntimes t b = b b b\ntest fold t by a accept e\naggregate count\nrows\nv\n1\n",
+            b"refused 27: table t: not associative at a a a\n",
+        ),
+        (
+            b"gta 1\ncolumns v\ngenerate sublists\ntable t unit e elements e a\ntimes t e = e e\n\
+              times t a = a a\ntest fold t by a accept e\naggregate count\nrows\nv\n1\n",
+            b"refused 26: table t: unit fails at a, left\n",
+        ),
+        (
+            b"gta 1\ncolumns v\ngenerate sublists\ntable t unit e elements e a\ntimes t e = e a\n\
+              times t a = e a\naggregate count\nrows\n",
+            b"refused 26: table t: unit fails at a, right\n",
+        ),
+        (
+            b"gta 1\ncolumns v\ngenerate sublists\ntable t unit e elements e\ntable u unit e elements e a\n\
+              times u e = e e\ntimes u a = a a\naggregate count\nrows\n",
+            b"refused 26: table u: unit fails at a, left\n",
         ),
         (
             b"gta 1\ncolumns v\ntest length mod 3 = 3\ngenerate suffixes\naggregate best 65 max v\nrows\n",
@@ -169,7 +199,7 @@ struct Growing {
     most: u32,
     past: u32,
     refused: &'static [u8],
-    // Whether there is a table, which is not built yet.
+    // Whether there is a table. It is not square, which is looked at after the limits.
     table: bool,
 }
 
@@ -376,20 +406,40 @@ fn limits_of_numbers(rt: HostRuntime) -> Result<(), Fail> {
 // A specification, and its canonical text, which shows as itself.
 #[test]
 fn canonical_texts(rt: HostRuntime) -> Result<(), Fail> {
-    let cases: [(&[u8], &[u8]); 3] = [
+    let cases: [(&[u8], &[u8]); 7] = [
         (
             b"gta 1\ncolumns v#c\ngenerate  sublists\nmeasure m = -  3*v+02 if v>=1;7\naggregate min m\nrows\n",
             b"gta 1\ncolumns v\ngenerate sublists\nmeasure m = -3*v + 2 if v >= 1 ; 7\naggregate min m\nrows\n",
         ),
         (
-            b"gta 1\naggregate best 007 max v\ngenerate\tassign\nlabels A B\ntest length<=-0\ntest sum m mod 5=04\ntest sum v>=1\n\
+            b"gta 1\naggregate best 007 max v\ngenerate\tassign\nlabels A B\ntest length<=-0\n\
+              test sum m mod 5=04\ntest sum v>=1\n\
               columns v w = \"Weight, kg\"\nmeasure m=v-2*w-3 if label A and w<=-7 and v=2;0\nrows # the table\n\xff",
-            b"gta 1\naggregate best 7 max v\ngenerate assign\nlabels A B\ntest length <= 0\ntest sum m mod 5 = 4\ntest sum v >= 1\n\
+            b"gta 1\naggregate best 7 max v\ngenerate assign\nlabels A B\ntest length <= 0\n\
+              test sum m mod 5 = 4\ntest sum v >= 1\n\
               columns v w=\"Weight, kg\"\nmeasure m = v - 2*w - 3 if label A and w <= -7 and v = 2 ; 0\nrows\n",
+        ),
+        (
+            b"gta 1\ntest fold t by a if v>=-01;e accept a e\ntimes t a=a e\ncolumns v\n\
+              table t unit e elements e a\ngenerate\tsegments\naggregate any\n times t e = e a\nrows\n",
+            b"gta 1\ntest fold t by a if v >= -1 ; e accept a e\ntimes t a = a e\ncolumns v\n\
+              table t unit e elements e a\ngenerate segments\naggregate any\ntimes t e = e a\nrows\n",
         ),
         (
             b"gta 1\ncolumns v\ngenerate suffixes\naggregate any\nrows",
             b"gta 1\ncolumns v\ngenerate suffixes\naggregate any\nrows\n",
+        ),
+        (
+            b"gta 1\ncolumns v\ngenerate prefixes\ntest sum v = -0\ntest length mod 3 = 2\naggregate best 2 min v\nrows",
+            b"gta 1\ncolumns v\ngenerate prefixes\ntest sum v = 0\ntest length mod 3 = 2\naggregate best 2 min v\nrows\n",
+        ),
+        (
+            b"gta 1\ncolumns v\nmeasure m=-0+v\ngenerate segments\naggregate count\nrows",
+            b"gta 1\ncolumns v\nmeasure m = -0 + v\ngenerate segments\naggregate count\nrows\n",
+        ),
+        (
+            b"gta 1\ncolumns v\ngenerate sublists\naggregate max v\nrows",
+            b"gta 1\ncolumns v\ngenerate sublists\naggregate max v\nrows\n",
         ),
     ];
     for (input, text) in cases {

@@ -15,7 +15,7 @@ passes_test-requires-clause-within c =
     let checked = c.args.checked.now in
     let same = ap (map plain_test) c.deref-test-items.ensures.value ∙ c.tests.ensures.tests in
     item-within plain_test c.deref-test-items.result.now checked.tests same
-    (IsTestWithin (length checked.columns) (length checked.labels) (length checked.measures))
+    (IsTestWithin (length checked.columns) (length checked.labels) (length checked.measures) checked.tables)
     c.loop-test.test-index c.test-item.result c.loop-test-test.true c.test-item.is c.tests.ensures.within.tests
 
 pub returns-then-not-passes_test : goal.returns-then-not-passes_test

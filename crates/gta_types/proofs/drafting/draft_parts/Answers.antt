@@ -2,7 +2,7 @@ use Rattle.std.proofs.Common.{arith}
 use Rattle.gta_spec.specs.declared.parts.Part.{Part}
 use Rattle.gta_spec.specs.Parts.{kind_tree}
 use Rattle.gta_types.specs.Ready.{IsReady}
-use Rattle.gta_types.proofs.Numbers.{each_at}
+use Rattle.spec_tables.proofs.NumberOf.{each_at}
 use Rattle.gta_types.proofs.drafting.draft_parts.Goals as goal
 
 pub draft_part-requires : goal.draft_part-requires

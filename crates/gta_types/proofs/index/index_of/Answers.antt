@@ -1,8 +1,8 @@
 use Rattle.std.proofs.Common.{◌≡◌, ℕ, ◌+◌, ◌<◌, List, [], ◌∷◌, ◌++◌, map, take, length, Option}
+use Rattle.std.specs.Option.{option_or}
 use Rattle.std.proofs.Common.{Some, None, cond, refl, sym, ap, ◌∙◌, arith}
-use Rattle.spec_rules.specs.SpecRules.{or_else}
 use Rattle.gta_types.specs.Index.{declaration, declared_place, first_in}
-use Rattle.gta_types.proofs.Fronts.{map_take_next}
+use Rattle.spec_tables.proofs.Fronts.{map_take_next}
 use Rattle.gta_types.proofs.Twice.{index_more, twice_more}
 use Rattle.gta_types.proofs.index.index_of.Goals as goal
 
@@ -26,7 +26,7 @@ loop-d-preserved c =
       known = index_more c.loop-d.names c.add.new.self all (declaration d) c.scope.result c.bytes.result.now
           c.found.result known c.scope.ensures c.bytes.ensures c.found.ensures added;
       first_twice = c.first_place-twice.ensures
-          ∙ ap (λ (o : Option (ℕ × List ℕ)). or_else o
+          ∙ ap (λ (o : Option (ℕ × List ℕ)). option_or o
           (cond c.in_ok-again.again (Some (declared_place (declaration d))) None))
           c.loop-d.invariant.first_twice
           ∙ sym (twice_more c.loop-d.names all (declaration d) c.in_ok-again.again c.scope.result c.bytes.result.now

@@ -4,29 +4,45 @@ use Rattle.shape_gen.specs.declared.shape.Shape.{Shape}
 use Rattle.gta_spec.specs.declared.parts.ColumnItem.{ColumnItem}
 use Rattle.gta_spec.specs.Parts.{spec_tree, part_tree}
 use Rattle.gta_checked.specs.declared.resolved.Goal.{Goal}
+use Rattle.gta_checked.specs.declared.resolved.Table.{Table}
+use Rattle.gta_checked.specs.Plain.{NamedTable, plain_named}
+use Rattle.spec_tables.specs.Tables.{named_table, tables_in}
 use Rattle.gta_types.specs.declared.drafting.Draft.{Draft}
 use Rattle.gta_types.specs.Resolved.{Environment, environment}
 use Rattle.gta_types.specs.Lists.{environment_of}
 use Rattle.gta_types.proofs.Whole.{is_sound, has_few_names, all_ready, one_shape_there}
 use Rattle.gta_types.proofs.Whole.{one_goal_there, within_limits, the_one}
+use Rattle.gta_types.proofs.Accepted.{few_tables}
+use Rattle.gta_types.proofs.Tables.{names_of-tables, tables_within}
 use Rattle.gta_types.proofs.Joined.{IsFresh, shapes_drafted, goals_drafted, is_resolved}
 use Rattle.gta_types.proofs.joining.resolve.Goals as goal
 
 pub lists_of-requires : goal.lists_of-requires
 lists_of-requires c =
-    let sound = is_sound (spec_tree c.args.spec.now) c.requires.well_formed c.requires.accepted in
-    record { few = rw c.as_slice-parts.ensures.value (has_few_names _ sound) }
+    let parts = map part_tree c.args.spec.now.parts.items in
+    let sound = is_sound (spec_tree c.args.spec.now) c.requires.well_formed c.requires.names c.requires.rules in
+    let trees = tables_in parts in
+    let count = length-map c.args.tables.items plain_named in
+    let tree_count = length-map trees (named_table parts) in
+    let same = ap (λ (ts : List NamedTable). length ts) c.requires.tables in
+    let few = few_tables parts sound.kept in
+    record {
+      few = rw c.as_slice-parts.ensures.value (has_few_names _ sound);
+      few_tables = omega (arith, few, count, tree_count, same);
+      within = tables_within parts c.args.tables.items trees c.requires.tables;
+      tables = rw c.as_slice-parts.ensures.value (names_of-tables parts c.args.tables.items trees c.requires.tables);
+    }
 
 pub draft_parts-requires : goal.draft_parts-requires
 draft_parts-requires c =
-    let sound = is_sound (spec_tree c.args.spec.now) c.requires.well_formed c.requires.accepted in
+    let sound = is_sound (spec_tree c.args.spec.now) c.requires.well_formed c.requires.names c.requires.rules in
     rw c.as_slice-parts.ensures.value
     (all_ready (map part_tree c.args.spec.now.parts.items) c.args.spec.now.parts.items sound.facts)
 
 pub index-shape-requires : goal.index-shape-requires
 index-shape-requires c =
     let parts = map part_tree c.args.spec.now.parts.items in
-    let sound = is_sound (spec_tree c.args.spec.now) c.requires.well_formed c.requires.accepted in
+    let sound = is_sound (spec_tree c.args.spec.now) c.requires.well_formed c.requires.names c.requires.rules in
     let drafted = rw c.as_slice-parts.ensures.value at c.in_ok-draft_parts.ensures in
     let old : Draft = record {
       measures = c.in_ok-column_measures.field-0;
@@ -48,7 +64,7 @@ index-shape-requires c =
 pub index-goal-requires : goal.index-goal-requires
 index-goal-requires c =
     let parts = map part_tree c.args.spec.now.parts.items in
-    let sound = is_sound (spec_tree c.args.spec.now) c.requires.well_formed c.requires.accepted in
+    let sound = is_sound (spec_tree c.args.spec.now) c.requires.well_formed c.requires.names c.requires.rules in
     let drafted = rw c.as_slice-parts.ensures.value at c.in_ok-draft_parts.ensures in
     let names = rw c.as_slice-parts.ensures.value at c.in_ok-lists.ensures.names in
     let old : Draft = record {
@@ -72,11 +88,12 @@ pub checked_of-requires : goal.checked_of-requires
 checked_of-requires c =
     let spec = spec_tree c.args.spec.now in
     let parts = map part_tree c.args.spec.now.parts.items in
-    let sound = is_sound spec c.requires.well_formed c.requires.accepted in
+    let sound = is_sound spec c.requires.well_formed c.requires.names c.requires.rules in
     let drafted = rw c.as_slice-parts.ensures.value at c.in_ok-draft_parts.ensures in
     let names = rw c.as_slice-parts.ensures.value at c.in_ok-lists.ensures.names in
     let items = rw c.as_slice-parts.ensures.value at c.in_ok-lists.ensures.columns in
     let lists = c.in_ok-lists.lists in
+    let tables = ap (λ (ts : List Table). map plain_named ts) c.in_ok-lists.ensures.tables ∙ c.requires.tables in
     let new = c.draft_parts.new.draft in
     let old : Draft = record {
       measures = c.in_ok-column_measures.field-0;
@@ -102,18 +119,19 @@ checked_of-requires c =
     (ap (λ (xs : List Goal). length xs) (goals_drafted env parts c.len-columns.result old new fresh names drafted)
     ∙ one_goal_there parts sound) c.index-goal.ensures in
     let whole = is_resolved spec lists c.len-columns.result old new c.index-shape.result.now c.index-goal.result.now
-    names items count fresh drafted one_shape one_goal in
-    within_limits spec sound _ whole
+    names items count tables fresh drafted one_shape one_goal in
+    within_limits spec sound _ whole lists.tables_within
 
 pub returns : goal.returns
 returns c =
     let spec = spec_tree c.args.spec.now in
     let parts = map part_tree c.args.spec.now.parts.items in
-    let sound = is_sound spec c.requires.well_formed c.requires.accepted in
+    let sound = is_sound spec c.requires.well_formed c.requires.names c.requires.rules in
     let drafted = rw c.as_slice-parts.ensures.value at c.in_ok-draft_parts.ensures in
     let names = rw c.as_slice-parts.ensures.value at c.in_ok-lists.ensures.names in
     let items = rw c.as_slice-parts.ensures.value at c.in_ok-lists.ensures.columns in
     let lists = c.in_ok-lists.lists in
+    let tables = ap (λ (ts : List Table). map plain_named ts) c.in_ok-lists.ensures.tables ∙ c.requires.tables in
     let new = c.draft_parts.new.draft in
     let old : Draft = record {
       measures = c.in_ok-column_measures.field-0;
@@ -139,5 +157,5 @@ returns c =
     (ap (λ (xs : List Goal). length xs) (goals_drafted env parts c.len-columns.result old new fresh names drafted)
     ∙ one_goal_there parts sound) c.index-goal.ensures in
     let whole = is_resolved spec lists c.len-columns.result old new c.index-shape.result.now c.index-goal.result.now
-    names items count fresh drafted one_shape one_goal in
+    names items count tables fresh drafted one_shape one_goal in
     rw c.checked_of.ensures whole

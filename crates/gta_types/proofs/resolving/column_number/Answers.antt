@@ -1,5 +1,5 @@
 use Rattle.gta_spec.specs.declared.parts.ColumnItem.{ColumnItem}
-use Rattle.gta_types.proofs.Numbers.{number_at_mapped}
+use Rattle.spec_tables.proofs.NumberOf.{number_at_mapped}
 use Rattle.gta_types.proofs.resolving.column_number.Goals as goal
 
 pub returns-then-eq : goal.returns-then-eq

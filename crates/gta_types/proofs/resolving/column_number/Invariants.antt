@@ -1,5 +1,5 @@
 use Rattle.std.proofs.Common.{◌≡◌, take, map}
-use Rattle.gta_types.specs.Resolved.{number_of}
+use Rattle.spec_tables.specs.Tables.{number_of}
 use Rattle.gta_types.proofs.resolving.column_number.Given as goal
 
 abbrev pub invariant-loop-number : goal.invariant-loop-number

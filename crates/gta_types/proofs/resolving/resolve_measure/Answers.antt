@@ -1,7 +1,7 @@
 use Rattle.std.proofs.Common.{arith}
 use Rattle.gta_spec.specs.Parts.{case_tree}
 use Rattle.gta_spec.specs.WellFormed.{FitsCase}
-use Rattle.gta_types.proofs.Numbers.{each_at}
+use Rattle.spec_tables.proofs.NumberOf.{each_at}
 use Rattle.gta_types.proofs.resolving.resolve_measure.Goals as goal
 
 pub resolve_case-requires : goal.resolve_case-requires

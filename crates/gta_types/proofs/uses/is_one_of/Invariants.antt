@@ -1,5 +1,5 @@
 use Rattle.std.proofs.Common.{◌≡◌, false, take}
-use Rattle.gta_types.specs.Names.{is_one_of}
+use Rattle.spec_tables.specs.Tables.{is_one_of}
 use Rattle.gta_types.proofs.uses.is_one_of.Given as goal
 
 abbrev pub invariant-loop-other : goal.invariant-loop-other

@@ -1,0 +1,6 @@
+pub mod Sums
+pub mod Merges
+pub mod Places
+pub mod Rows
+pub mod Picks
+pub mod Worked

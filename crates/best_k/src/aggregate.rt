@@ -1,0 +1,9 @@
+//! What a sum of best entries is. The aggregate is in specs/Aggregate.antt.
+ghost use Rattle.best_k.specs.Aggregate.{SumIsBest};
+
+/// The sum over a list of candidates, each of which weighs the product of its marks' elements, is the first k
+/// of the candidates by their total weight and by shortlex, or all where they are fewer.
+/// It does nothing: the law is its contract.
+pub fn best_sums_are_aggregates()
+    ensures { SumIsBest }
+{}

@@ -1,0 +1,12 @@
+//! The texts of the drill: three jobs over one table, which a seed and a number of rows give.
+//! specs/Drills.antt has the exact bytes. The table is in src/table.rt, the jobs in src/drill.rt.
+#![tactic(auto)]
+
+mod drill;
+mod table;
+
+pub use drill::{BYTES_LIMIT, Drill, drill_text, heading};
+pub use table::ROWS_LIMIT;
+
+#[cfg(test)]
+mod tests;

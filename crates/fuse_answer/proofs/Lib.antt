@@ -1,0 +1,5 @@
+pub mod Light
+pub mod AtPlaces
+pub mod Lawful
+pub mod Kept
+pub mod Aggregates

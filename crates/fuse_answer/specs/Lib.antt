@@ -1,0 +1,4 @@
+pub mod Weights
+pub mod Letters
+pub mod Keys
+pub mod Crews

@@ -1,0 +1,162 @@
+//! The sum over the candidates that pass, in any semiring.
+
+ghost use Rattle.std.specs.Prelude.{◌≡◌, ◌*◌, ◌<◌, ◌≤◌, None, IfOk, length};
+ghost use Rattle.monoid_kit.specs.Items.{AllElements};
+ghost use Rattle.semiring_kit.specs.Aggregates.{sum_over};
+ghost use Rattle.shape_gen.specs.Candidates.{candidates};
+ghost use Rattle.fuse_core.specs.Letters.{key_of, weight_of};
+ghost use Rattle.fuse_core.specs.Plans.{accepted_sum};
+ghost use Rattle.gta_checked.specs.PlainRows.{plain_rows};
+ghost use Rattle.gta_meaning.specs.Heavy.{first_heavy};
+ghost use Rattle.gta_meaning.specs.InRange as in_range;
+ghost use Rattle.gta_meaning.specs.InRange.{HasColumnsOf};
+ghost use Rattle.gta_meaning.specs.Kept.{kept};
+ghost use Rattle.test_homs.specs.Homs.{ArePrepared};
+ghost use Rattle.fuse_answer.specs.Crews.{IsCrew};
+ghost use Rattle.fuse_answer.specs.Keys.{DecidePassing};
+ghost use Rattle.fuse_answer.specs.Letters as letters;
+ghost use Rattle.fuse_answer.specs.Weights.{goal_weight};
+
+use crate::crew::Crew;
+use crate::letters::letters_of;
+use fuse_core::{Plan, finish, plan_of};
+use gta_checked::{Checked, Rows};
+use gta_meaning::label_count;
+use gta_spec::ROW_LIMIT;
+use interval_kit::{Fused, cut_of};
+use key_map::SparseKit;
+use monoid_kit::Monoid;
+use semiring_kit::Semiring;
+use std::alloc::{AllocError, Global};
+use std::marker::Brand;
+use std::sync::ledger::{Blank, Ledger};
+use std::thread::Threads;
+use step_count::Steps;
+use test_homs::Tests;
+use worker_pool::{Gate, solve};
+
+/// The sum, over the candidates that pass, of the products of their marks' elements.
+/// No candidate is listed: workers compute leaves of rows, neighbours are joined, and the value of all
+/// rows is finished. Refuses only for want of memory.
+pub fn sum_of_kept<R: Threads + Sync, G: Gate + Sync, S: Semiring + Sync>(
+    rt: &R,
+    alloc: Global,
+    crew: Crew,
+    gate: &G,
+    checked: &Checked,
+    rows: &Rows,
+    tests: &Tests,
+    kit: S,
+) -> Result<S::Elem, AllocError>
+    requires crew { IsCrew crew }
+    requires columns { HasColumnsOf checked.now (plain_rows rows.now) }
+    requires few { rows.now.count ≤ ROW_LIMIT }
+    requires light { first_heavy checked.now (plain_rows rows.now) ≡ None }
+    requires prepared { ArePrepared checked.now (plain_rows rows.now) tests.now }
+    ensures { let weight = goal_weight checked.now (plain_rows rows.now) in
+        let candidates = kept checked.now (plain_rows rows.now) in
+        IfOk result (λ sum. sum ≡ sum_over (S.ring kit) (S.of_mark kit) weight candidates) }
+{
+    let keys = tests.product().twin(alloc)?;
+    sum_by_keys(
+        rt,
+        alloc,
+        crew,
+        gate,
+        checked,
+        rows,
+        kit,
+        keys,
+        tests.letters(),
+        tests.accept(),
+    )
+}
+
+/// The same, with keys of any monoid that decide which candidates pass.
+fn sum_by_keys<R: Threads + Sync, G: Gate + Sync, S: Semiring + Sync, M: Monoid + Sync>(
+    rt: &R,
+    alloc: Global,
+    crew: Crew,
+    gate: &G,
+    checked: &Checked,
+    rows: &Rows,
+    kit: S,
+    monoid: M,
+    keys: &[u32],
+    accept: &[bool],
+) -> Result<S::Elem, AllocError>
+    requires crew { IsCrew crew }
+    requires columns { HasColumnsOf checked.now (plain_rows rows.now) }
+    requires few { rows.now.count ≤ ROW_LIMIT }
+    requires light { first_heavy checked.now (plain_rows rows.now) ≡ None }
+    requires decide { DecidePassing checked.now (plain_rows rows.now)
+        (M.size monoid) (M.unit monoid) (M.mul monoid) keys.now accept.now }
+    ensures { let weight = goal_weight checked.now (plain_rows rows.now) in
+        let candidates = kept checked.now (plain_rows rows.now) in
+        IfOk result (λ sum. sum ≡ sum_over (S.ring kit) (S.of_mark kit) weight candidates) }
+{
+    let plan = plan_by_keys(alloc, checked, rows, kit, monoid, keys)?;
+    accepted_sum::<R, G, S, M, Brand>(rt, alloc, crew, gate, &plan, accept, Blank::new(1))
+}
+
+/// The plan of the rows, with a key and the element of a weight for each row and label.
+fn plan_by_keys<S: Semiring, M: Monoid>(
+    alloc: Global,
+    checked: &Checked,
+    rows: &Rows,
+    kit: S,
+    monoid: M,
+    keys: &[u32],
+) -> Result<Plan<SparseKit<S, M>>, AllocError>
+    requires columns { HasColumnsOf checked.now (plain_rows rows.now) }
+    requires few { rows.now.count ≤ ROW_LIMIT }
+    requires light { first_heavy checked.now (plain_rows rows.now) ≡ None }
+    requires count { length keys.now ≡ rows.now.count * in_range.label_count checked.now }
+    requires keys_are_elements { let size = M.size monoid in
+        AllElements (λ key. key < size) (λ key. key) keys.now }
+    ensures { let weight = goal_weight checked.now (plain_rows rows.now) in
+        let labels = in_range.label_count checked.now in
+        let all = letters.letters_of (S.of_mark kit) weight keys.now rows.now.count labels in
+        IfOk result (λ plan. plan ≡ record {
+          shape = checked.now.shape;
+          rows = rows.now.count;
+          labels = labels;
+          kit = record { kit = kit; keys = monoid };
+          letters = all;
+        }) }
+{
+    let letters = letters_of(alloc, checked, rows, &kit, keys)?;
+    let labels = label_count(checked);
+    let kit = SparseKit { kit, keys: monoid };
+    Ok(plan_of(*checked.shape(), rows.count, labels, kit, letters))
+}
+
+/// The sum of the weights of the plan's candidates whose keys are accepted, by so many workers.
+/// A ledger counts the products of the gathering.
+fn accepted_sum<R: Threads + Sync, G: Gate + Sync, S: Semiring + Sync, M: Monoid + Sync, L: Ledger>(
+    rt: &R,
+    alloc: Global,
+    crew: Crew,
+    gate: &G,
+    plan: &Plan<SparseKit<S, M>>,
+    accept: &[bool],
+    blank: Blank,
+) -> Result<S::Elem, AllocError>
+    requires crew { IsCrew crew }
+    requires few { plan.now.rows ≤ ROW_LIMIT }
+    requires one_a_key { length accept.now ≡ M.size plan.now.kit.keys }
+    requires same_name { blank.name ≡ L.name }
+    requires same_parts { blank.parts ≡ L.parts }
+    requires some_part { 0 < blank.parts }
+    ensures { let ring = S.ring plan.now.kit.kit in
+        let monoid = plan.now.kit.keys in
+        let key = key_of (M.unit monoid) (M.mul monoid) plan.now.labels plan.now.letters in
+        let weight = weight_of ring plan.now.labels plan.now.letters in
+        let all = candidates plan.now.shape plan.now.rows plan.now.labels in
+        IfOk result (λ sum. sum ≡ accepted_sum ring key weight accept.now all) }
+{
+    let cut = cut_of(alloc, plan.rows(), crew.leaf)?;
+    let mut steps = Steps::<L>::new(blank);
+    let value = solve(rt, alloc, plan, &cut, crew.workers, gate, &mut steps)?;
+    finish(alloc, plan, &value, accept)
+}

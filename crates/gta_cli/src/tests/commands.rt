@@ -1,0 +1,109 @@
+//! The commands `list` and `drill`, and options, over the top call.
+
+use super::{HEAD, Ports, SMOOTH, USAGE, called, job_of};
+use std::test::Fail;
+
+// The lines of a job and its cells, and what `list` prints to the output and to the error output.
+#[test]
+fn candidates_that_are_listed(rt: HostRuntime) -> Result<(), Fail> {
+    let cases: [(&[u8], &[u8], &[u8], &[u8]); 7] = [
+        (
+            b"generate sublists\ntest sum v = 2\naggregate count\n",
+            b"1\n1\n1\n",
+            b"kept 3\n2 3\n1 3\n1 2\n",
+            b"",
+        ),
+        (
+            b"generate segments\ntest sum v >= 5\naggregate count\n",
+            b"1\n2\n1\n",
+            b"kept 0\n",
+            b"",
+        ),
+        (
+            b"labels A B\ngenerate assign\naggregate any\n",
+            b"7\n",
+            b"kept 2\n1:A\n1:B\n",
+            b"",
+        ),
+        (
+            b"generate prefixes\naggregate any\n",
+            b"4\n-4\n",
+            b"kept 3\n-\n1\n1 2\n",
+            b"",
+        ),
+        (
+            b"generate sublists\ntest length >= 17\naggregate count\n",
+            b"0\n0\n0\n0\n0\n0\n0\n0\n0\n0\n0\n0\n0\n0\n0\n0\n",
+            b"kept 0\n",
+            b"",
+        ),
+        (
+            b"generate sublists\ntest length >= 17\naggregate count\n",
+            b"0\n0\n0\n0\n0\n0\n0\n0\n0\n0\n0\n0\n0\n0\n0\n0\n0\n",
+            b"",
+            b"refused 44: too many candidates to list\n",
+        ),
+        (
+            b"generate sublists\ntest sum v <= 1\naggregate count\n",
+            b"0\n0\n0\n0\n0\n0\n0\n0\n0\n0\n0\n0\n0\n0\n0\n0\n-1\n",
+            b"",
+            b"refused 40: test 1, row 17: value -1 is negative\n",
+        ),
+    ];
+    for (lines, cells, out, err) in cases {
+        let input = job_of(rt.alloc(), lines, cells)?;
+        let ended = called(&rt, rt.alloc(), &["list"], input.as_slice(), SMOOTH)?;
+        let status = if err.is_empty() { 0 } else { 1 };
+        assert_eq!(rt; ended.out.as_slice(), out, "output at {cells:?}");
+        assert_eq!(rt; ended.err.as_slice(), err, "error output at {cells:?}");
+        assert_eq!(rt; ended.status, status, "status at {cells:?}");
+    }
+    Ok(())
+}
+
+// The words of a drill, whose source fails at its first read.
+#[test]
+fn a_drill_of_three_rows(rt: HostRuntime) -> Result<(), Fail> {
+    let lists: [&[&str]; 3] = [
+        &["drill", "7", "3"],
+        &["drill", "--leaf", "1", "7", "3", "--workers=8"],
+        &["drill", "--leaf=65536", "7", "3"],
+    ];
+    for texts in lists {
+        let ports = Ports {
+            source_fails: &[1],
+            ..SMOOTH
+        };
+        let ended = called(&rt, rt.alloc(), texts, HEAD, ports)?;
+        assert_eq!(rt;
+            ended.out.as_slice(),
+            b"drill 7 3\nanswer 3\n1 146 1 2 3\n2 112 2 3\n3 98 1 3\nanswer 146\nanswer 6\n".as_slice(),
+            "output at {texts:?}"
+        );
+        assert_eq!(rt; ended.err.len(), 0, "error output at {texts:?}");
+        assert_eq!(rt; ended.status, 0, "status at {texts:?}");
+    }
+    Ok(())
+}
+
+#[test]
+fn words_past_the_limits(rt: HostRuntime) -> Result<(), Fail> {
+    let lists: [&[&str]; 9] = [
+        &["list", "x"],
+        &["list", "--leaf", "1"],
+        &["drill", "7"],
+        &["drill", "7", "0"],
+        &["drill", "7", "20001"],
+        &["drill", "4294967296", "3"],
+        &["run", "--workers", "65"],
+        &["run", "--leaf", "0"],
+        &["run", "--leaf", "65537"],
+    ];
+    for texts in lists {
+        let ended = called(&rt, rt.alloc(), texts, HEAD, SMOOTH)?;
+        assert_eq!(rt; ended.status, 2, "status at {texts:?}");
+        assert_eq!(rt; ended.out.len(), 0, "output at {texts:?}");
+        assert_eq!(rt; ended.err.as_slice(), USAGE, "error output at {texts:?}");
+    }
+    Ok(())
+}

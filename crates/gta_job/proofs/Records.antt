@@ -1,0 +1,55 @@
+-- The rows of a table that has no fault.
+use Rattle.std.proofs.Common.{◌≡◌, ℕ, ◌+◌, ◌-◌, ◌≤◌, ◌<◌, ℤ, nat_lt, cond, true, false, List, [], ◌∷◌, length, Option, Some, None}
+use Rattle.std.proofs.Common.{refl, sym, ap, ◌∙◌, subst, arith}
+use Rattle.std.specs.Option.{option_or}
+use Rattle.gta_spec.specs.declared.limits.TheConstants.{ROW_LIMIT}
+use Rattle.gta_spec.specs.declared.parts.ColumnItem.{ColumnItem}
+use Rattle.gta_checked.specs.declared.rows.Rows.{Rows}
+use Rattle.gta_checked.specs.PlainRows.{PlainRows, plain_rows}
+use Rattle.gta_checked.specs.Plain.{PlainChecked}
+use Rattle.gta_rows.specs.Fields.{Record}
+use Rattle.gta_rows.specs.declared.fault.RowsFault.{RowsFault}
+use Rattle.gta_rows.specs.declared.fault.RowsFault.TheVariants.{TooMany}
+use Rattle.gta_rows.specs.Table.{IsTableOf, fault_behind, fault_in, first_bad_cell, missing, no_cell, places}
+use Rattle.gta_rows.specs.Table.{table_fault, table_records, too_many, twice, wrong_length}
+use Rattle.gta_job.specs.Jobs.{rows_of}
+
+or-second : {A : Type 0} (first second : Option A) → option_or first second ≡ None → second ≡ None
+or-second None second none = none
+or-second (Some x) second none = absurd (let found : Some x ≡ None = none in cc)
+
+few-if_not_many : (count : ℕ) → too_many count ≡ None → count ≤ ROW_LIMIT
+few-if_not_many count none = by_test (nat_lt ROW_LIMIT count) refl
+  where
+    by_test : (t : _) → nat_lt ROW_LIMIT count ≡ t → count ≤ ROW_LIMIT
+    by_test true many = absurd (let found : Some TooMany ≡ None = rw many at none in cc)
+    by_test false few = grind (arith, few)
+
+few-in : (items : List ColumnItem) (records : List Record) → fault_in items records ≡ None
+    → length records ≤ ROW_LIMIT + 1
+unfolding fault_in fault_behind
+few-in items [] none = omega arith
+few-in items (header ∷ records) none =
+    let behind = or-second (twice header items) (fault_behind header items records)
+    (or-second (missing header items) (option_or (twice header items) (fault_behind header items records)) none) in
+    let few = few-if_not_many (length records)
+    (or-second (no_cell items (first_bad_cell (places header items) records)) (too_many (length records))
+    (or-second (wrong_length (length header) records)
+    (option_or (no_cell items (first_bad_cell (places header items) records)) (too_many (length records))) behind)) in
+    omega (arith, few)
+
+pub table-few : (items : List ColumnItem) (bytes : List ℕ) (rows : Rows) → IsTableOf items bytes rows
+    → table_fault items bytes ≡ None → rows.count ≤ ROW_LIMIT
+table-few items bytes rows table none =
+    let few = few-in items (table_records bytes) none in
+    let count = table.count in
+    omega (arith, few, count)
+
+pub table-rows : (checked : PlainChecked) (bytes : List ℕ) (rows : Rows) → IsTableOf checked.columns bytes rows
+    → plain_rows rows ≡ rows_of checked bytes
+table-rows checked bytes rows table =
+    let count : rows.count ≡ length (table_records bytes) - 1 = let more = table.count in omega (arith, more) in
+    let of : ℕ → ℕ → List ℤ → PlainRows = λ n w cells. record { count = n; columns = w; cells = cells } in
+    ap (λ n. of n rows.columns rows.cells.items) count
+    ∙ ap (λ w. of (length (table_records bytes) - 1) w rows.cells.items) table.columns
+    ∙ ap (of (length (table_records bytes) - 1) (length checked.columns)) table.cells

@@ -1,0 +1,4 @@
+pub mod Described
+pub mod Entries
+pub mod Numbers
+pub mod Given

@@ -1,0 +1,6 @@
+pub mod Component
+pub mod ComponentOf
+pub mod ComponentLaws
+pub mod Product
+pub mod ProductOf
+pub mod ProductLaws

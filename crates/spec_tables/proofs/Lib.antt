@@ -1,0 +1,4 @@
+pub mod Fronts
+pub mod NumberOf
+pub mod Rows
+pub mod Told

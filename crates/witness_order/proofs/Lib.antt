@@ -1,0 +1,5 @@
+pub mod Placed
+pub mod Firsts
+pub mod Orders
+pub mod Meanings
+pub mod JoinedLists

@@ -1,0 +1,4 @@
+pub mod Rankings
+pub mod Shortlex
+pub mod Ranked
+pub mod Before

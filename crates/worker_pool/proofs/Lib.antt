@@ -1,0 +1,11 @@
+-- Lemmas on the value of all rows, each file on the ones above it.
+pub mod Bounds
+pub mod Longest
+pub mod Walking
+pub mod Turning
+pub mod Taking
+pub mod Accounting
+pub mod Stopping
+pub mod Finishing
+pub mod Costs
+pub mod Sharing
