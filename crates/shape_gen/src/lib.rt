@@ -1,5 +1,5 @@
 //! The shapes of candidates, and the candidates themselves as plain lists.
-//! specs/Candidates.antt lists them; no code here or above lists them while a job runs.
+//! specs/Candidates.antt lists them; an answer is found without listing any.
 //! How many there are, and how many marks they have, is in counting.rt.
 #![tactic(auto)]
 
