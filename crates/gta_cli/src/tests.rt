@@ -22,6 +22,20 @@ const HEAD: &[u8] = b"gta 1\ncolumns v\ngenerate sublists\naggregate max v\nrows
 
 const USAGE: &[u8] = b"usage: gta run|show|list|drill [--workers N] [--leaf N] [SEED ROWS]\n";
 
+/// The words of a run, also by several workers and sizes of leaves.
+const RUNS: [&[&str]; 10] = [
+    &["run"],
+    &["run", "--workers=1", "--leaf=1"],
+    &["run", "--workers=1", "--leaf=2"],
+    &["run", "--workers=1", "--leaf=64"],
+    &["run", "--workers=2", "--leaf=1"],
+    &["run", "--workers=2", "--leaf=2"],
+    &["run", "--workers=2", "--leaf=64"],
+    &["run", "--workers=8", "--leaf=1"],
+    &["run", "--workers=8", "--leaf=2"],
+    &["run", "--workers=8", "--leaf=64"],
+];
+
 /// How the source, the output and the error output of a run behave.
 #[derive(Clone, Copy)]
 struct Ports {
@@ -90,19 +104,29 @@ fn with_head(alloc: Global, cells: &[u8]) -> Result<Vec<u8>, Fail> {
     Ok(input)
 }
 
-/// What a run of each input prints to the output and to the error output. It ends with status 0 where
-/// nothing is on the error output, and else with status 1.
+/// What a run of each input prints to the output and to the error output, by whichever crew. It ends with status 0
+/// where nothing is on the error output, and else with status 1.
 fn assert_runs<R: Threads + Abort + Sync>(
     rt: &R,
     alloc: Global,
     cases: &[(&[u8], &[u8], &[u8])],
 ) -> Result<(), Fail> {
     for (input, out, err) in cases {
-        let ended = called(rt, alloc, &["run"], input, SMOOTH)?;
-        let status = if err.is_empty() { 0 } else { 1 };
-        assert_eq!(rt; ended.out.as_slice(), *out, "output at {input:?}");
-        assert_eq!(rt; ended.err.as_slice(), *err, "error output at {input:?}");
-        assert_eq!(rt; ended.status, status, "status at {input:?}");
+        for texts in RUNS {
+            let ended = called(rt, alloc, texts, input, SMOOTH)?;
+            let status = if err.is_empty() { 0 } else { 1 };
+            assert_eq!(rt;
+                ended.out.as_slice(),
+                *out,
+                "output of {texts:?} at {input:?}"
+            );
+            assert_eq!(rt;
+                ended.err.as_slice(),
+                *err,
+                "error output of {texts:?} at {input:?}"
+            );
+            assert_eq!(rt; ended.status, status, "status of {texts:?} at {input:?}");
+        }
     }
     Ok(())
 }

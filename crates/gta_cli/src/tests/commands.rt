@@ -86,6 +86,37 @@ fn a_drill_of_three_rows(rt: HostRuntime) -> Result<(), Fail> {
     Ok(())
 }
 
+// The words of a drill of 2000 rows. All print the same.
+#[test]
+fn a_drill_by_any_crew(rt: HostRuntime) -> Result<(), Fail> {
+    let lists: [&[&str]; 7] = [
+        &["drill", "7", "2000"],
+        &["drill", "7", "2000", "--workers", "1", "--leaf", "1"],
+        &["drill", "7", "2000", "--workers", "1", "--leaf", "64"],
+        &["drill", "7", "2000", "--workers", "1", "--leaf", "65536"],
+        &["drill", "7", "2000", "--workers", "8", "--leaf", "1"],
+        &["drill", "7", "2000", "--workers", "8", "--leaf", "64"],
+        &["drill", "7", "2000", "--workers", "8", "--leaf", "65536"],
+    ];
+    let first = called(&rt, rt.alloc(), &["drill", "7", "2000"], b"", SMOOTH)?;
+    let out = first.out.as_slice();
+    assert!(rt;
+        out.starts_with(b"drill 7 2000\nanswer 3\n1 7033 12 38 51 64 "),
+        "{out:?}"
+    );
+    assert!(rt;
+        out.ends_with(b" 1988\nanswer 29275\nanswer 2001000\n"),
+        "{out:?}"
+    );
+    for texts in lists {
+        let ended = called(&rt, rt.alloc(), texts, b"", SMOOTH)?;
+        assert_eq!(rt; ended.out.as_slice(), out, "output at {texts:?}");
+        assert_eq!(rt; ended.err.len(), 0, "error output at {texts:?}");
+        assert_eq!(rt; ended.status, 0, "status at {texts:?}");
+    }
+    Ok(())
+}
+
 #[test]
 fn words_past_the_limits(rt: HostRuntime) -> Result<(), Fail> {
     let lists: [&[&str]; 9] = [

@@ -2,6 +2,7 @@
 
 use super::assert_jobs;
 use std::alloc::Global;
+use std::fmt::Write;
 use std::process::Abort;
 use std::test::Fail;
 use std::thread::Threads;
@@ -184,6 +185,12 @@ fn several_tests(rt: HostRuntime) -> Result<(), Fail> {
                 b"refused 42: 10404 keys past 8192\n",
             ),
             (
+                b"generate sublists\ntest sum v <= 4095\ntest length mod 2 = 0\naggregate count\n",
+                b"1\n",
+                b"",
+                b"refused 42: 8194 keys past 8192\n",
+            ),
+            (
                 b"generate sublists\ntest sum v <= 100\ntest sum v >= 100\naggregate max v\n",
                 b"4611686018427387903\n1\n",
                 b"",
@@ -217,6 +224,13 @@ fn folds_over_a_table(rt: HostRuntime) -> Result<(), Fail> {
                 b"answer 11\n",
             ),
             (
+                b"generate sublists\ntest sum v mod 2 = 1\ntest sum v mod 3 = 0\ntest sum v <= 12\n\
+                  test length mod 1 = 0\ntest length mod 2 = 1\ntest length <= 3\ntest length >= 2\n\
+                  test fold t by a accept a\naggregate best 4 max v\n",
+                b"1\n2\n3\n4\n5\n6\n",
+                b"answer 3\n1 9 1 2 6\n2 9 1 3 5\n3 9 2 3 4\n",
+            ),
+            (
                 b"labels A B\ngenerate assign\ntest fold t by a if label B and v >= 2 accept a\n\
                   measure onB = v if label B\naggregate best 2 max onB\n",
                 b"1\n2\n3\n",
@@ -246,4 +260,52 @@ fn folds_over_a_table(rt: HostRuntime) -> Result<(), Fail> {
             ),
         ],
     )
+}
+
+/// A table of 64 elements. A product without the unit m0 is m1, but for m63 m63, which is the square, and m62 m63,
+/// which is the other.
+fn table_of_64(alloc: Global, square: u32, other: u32) -> Result<String, Fail> {
+    let mut text = String::from_str(alloc, "table t unit m0 elements")?;
+    for b in 0..64u32 {
+        write!(text, " m{b}")?;
+    }
+    for a in 0..64u32 {
+        write!(text, "\ntimes t m{a} =")?;
+        for b in 0..64u32 {
+            let product = match (a, b) {
+                (0, _) => b,
+                (_, 0) => a,
+                (63, 63) => square,
+                (62, 63) => other,
+                _ => 1,
+            };
+            write!(text, " m{product}")?;
+        }
+    }
+    text.push_str("\ngenerate sublists\ntest fold t by m63 accept m1\naggregate count\n")?;
+    Ok(text)
+}
+
+// The products of m63 m63 and of m62 m63, and what is printed where. At last the law fails at the last triple alone.
+#[test]
+fn tables_of_64_elements(rt: HostRuntime) -> Result<(), Fail> {
+    let cases: [(u32, u32, &[u8], &[u8]); 3] = [
+        (1, 1, b"answer 4\n", b""),
+        (62, 1, b"answer 1\n", b""),
+        (
+            62,
+            2,
+            b"",
+            b"refused 27: table t: not associative at m63 m63 m63\n",
+        ),
+    ];
+    for (square, other, out, err) in cases {
+        let lines = table_of_64(rt.alloc(), square, other)?;
+        assert_jobs(
+            &rt,
+            rt.alloc(),
+            &[(lines.as_bytes(), b"1\n1\n1\n", out, err)],
+        )?;
+    }
+    Ok(())
 }

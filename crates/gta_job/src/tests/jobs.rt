@@ -1,12 +1,23 @@
 //! Whole jobs, by several numbers of workers and sizes of leaves: the answer is the same, and the size of a job
 //! rests on its leaves.
 
-use crate::{JobEnd, answer_job, list_job};
+use crate::{JobEnd, answer_job, answer_with, list_job};
 use report_text::fault_line;
 use std::alloc::Global;
 use std::process::Abort;
+use std::sync::atomic::{AtomicU64, Ordering};
 use std::test::Fail;
 use std::thread::Threads;
+use worker_pool::Gate;
+
+/// What is printed at this end of a job: its text, or the line of its refusal.
+fn printed(alloc: Global, end: Result<Vec<u8>, JobEnd>) -> Result<Vec<u8>, Fail> {
+    match end {
+        Ok(text) => Ok(text),
+        Err(JobEnd::Refused(refusal)) => Ok(fault_line(alloc, &refusal)?),
+        Err(JobEnd::Memory) => Ok(Vec::new(alloc)),
+    }
+}
 
 /// What a job prints: its report, or the line of its refusal.
 fn told<R: Threads + Abort + Sync>(
@@ -21,11 +32,7 @@ fn told<R: Threads + Abort + Sync>(
     assert!(rt; workers <= 64);
     assert!(rt; leaf >= 1);
     assert!(rt; leaf <= 65536);
-    match answer_job(rt, alloc, input, workers, leaf) {
-        Ok(text) => Ok(text),
-        Err(JobEnd::Refused(refusal)) => Ok(fault_line(alloc, &refusal)?),
-        Err(JobEnd::Memory) => Ok(Vec::new(alloc)),
-    }
+    printed(alloc, answer_job(rt, alloc, input, workers, leaf))
 }
 
 #[test]
@@ -87,7 +94,7 @@ fn answers_by_any_workers_and_leaf(rt: HostRuntime) -> Result<(), Fail> {
 #[test]
 fn sizes_past_the_limit(rt: HostRuntime) -> Result<(), Fail> {
     let cases: [(u32, u32, &[u8]); 3] = [
-        (100, 1, b"answer 5051\n"),
+        (2048, 1, b"answer 2098177\n"),
         (2049, 1, b"refused 43: size 67141632 past 67108864\n"),
         (4097, 2, b"refused 43: size 67141632 past 67108864\n"),
     ];
@@ -105,14 +112,46 @@ fn sizes_past_the_limit(rt: HostRuntime) -> Result<(), Fail> {
     Ok(())
 }
 
+/// Counts the turns, and holds a worker back for longer at some of them.
+#[derive(Drop)]
+struct Uneven {
+    turns: AtomicU64,
+}
+
+impl Gate for Uneven {
+    fn pass(&self, worker: u32, turn: u64) {
+        self.turns.fetch_add(1, Ordering::SeqCst);
+        for _ in 0..(u64::from(worker % 8) + turn % 8) * 1000 {
+            let _ = self.turns.load(Ordering::SeqCst);
+        }
+    }
+}
+
+// The numbers of workers, of whom some are held back. Each of eight leaves is somebody's turn.
+#[test]
+fn what_happens_at_the_gate_shows_nowhere(rt: HostRuntime) -> Result<(), Fail> {
+    let input = b"gta 1\ncolumns v\ngenerate segments\naggregate best 2 max v\nrows\n\
+                  v\n-2\n1\n-3\n4\n-1\n2\n1\n-5\n";
+    for workers in [1, 2, 3, 8] {
+        let turns = AtomicU64::new(0);
+        let gate = Uneven { turns };
+        let text = printed(
+            rt.alloc(),
+            answer_with(&rt, rt.alloc(), input, workers, 1, &gate),
+        )?;
+        assert_eq!(rt;
+            text.as_slice(),
+            b"answer 2\n1 6 4 5 6 7\n2 5 4 5 6\n".as_slice()
+        );
+        assert!(rt; gate.turns.load(Ordering::SeqCst) >= 8, "{workers} workers");
+    }
+    Ok(())
+}
+
 /// What is printed of the candidates that a job keeps: their list, or the line of the refusal.
 fn listed<R: Abort>(rt: &R, alloc: Global, input: &[u8]) -> Result<Vec<u8>, Fail> {
     assert!(rt; input.len() <= 1_000_000);
-    match list_job(alloc, input) {
-        Ok(text) => Ok(text),
-        Err(JobEnd::Refused(refusal)) => Ok(fault_line(alloc, &refusal)?),
-        Err(JobEnd::Memory) => Ok(Vec::new(alloc)),
-    }
+    printed(alloc, list_job(alloc, input))
 }
 
 // Jobs that count: the number behind `answer` is the one behind `kept`, where the candidates are listed.
@@ -146,5 +185,21 @@ fn a_count_is_the_number_of_those_listed(rt: HostRuntime) -> Result<(), Fail> {
             "{report:?} and {list:?} at {input:?}"
         );
     }
+    Ok(())
+}
+
+// A job of 16 rows and without tests: as many candidates as may be listed.
+#[test]
+fn the_longest_list(rt: HostRuntime) -> Result<(), Fail> {
+    let text = listed(
+        &rt,
+        rt.alloc(),
+        b"gta 1\ncolumns v\ngenerate sublists\naggregate count\nrows\n\
+          v\n1\n2\n3\n4\n5\n6\n7\n8\n9\n10\n11\n12\n13\n14\n15\n16\n",
+    )?;
+    let lines = text.as_slice();
+    assert_eq!(rt; lines.len(), 1277965);
+    assert!(rt; lines.starts_with(b"kept 65536\n-\n16\n15\n15 16\n14\n"));
+    assert!(rt; lines.ends_with(b"\n1 2 3 4 5 6 7 8 9 10 11 12 13 14 15 16\n"));
     Ok(())
 }
