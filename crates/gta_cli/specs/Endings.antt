@@ -1,5 +1,5 @@
 -- When a command has a text, and why it has none. What is not told of the source claims nothing.
-use Rattle.std.specs.Prelude.{ℕ, ◌≡◌, List, [], Option, Some, None, IfSome, IsSome}
+use Rattle.std.specs.Prelude.{ℕ, ◌≡◌, List, [], Option, Some, None, IfSome}
 use Rattle.std.specs.Option.{IsSomeAnd}
 use Rattle.std.specs.Io.KnownBytes.{Appends, IsAtEnd}
 use Rattle.gta_port.specs.Port.{GainsFront}
@@ -49,7 +49,7 @@ Explains asked left fault steady Usage = asked ≡ None
 Explains asked left fault steady (Refused refusal) =
     steady × IsSomeAnd asked (λ command. IfSome (input_of command left) (λ bytes.
     refusal_of command bytes ≡ Some refusal))
-Explains asked left fault steady ReadFault = IsSome asked × fault
+Explains asked left fault steady ReadFault = IsSomeAnd asked (λ command. IsDrill command → ⊥) × fault
 Explains asked left fault steady Memory = Unit {0}
 
 -- what a fault of the words ends with

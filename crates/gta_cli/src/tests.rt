@@ -402,6 +402,46 @@ fn faults_at_each_call(rt: HostRuntime) -> Result<(), Fail> {
     Ok(())
 }
 
+// A knapsack whose third read fails, and one whose second write does.
+#[test]
+fn faults_of_a_knapsack(rt: HostRuntime) -> Result<(), Fail> {
+    let input = b"gta 1\ncolumns weight value\ngenerate sublists\ntest sum weight <= 50\n\
+                  aggregate best 2 max value\nrows\nweight,value\n10,60\n20,100\n30,120\n";
+    let cases: [(Ports, u8, &[u8], &[u8]); 2] = [
+        (
+            Ports {
+                source_chunk: 16,
+                source_fails: &[3],
+                ..SMOOTH
+            },
+            3,
+            b"",
+            b"read fault\n",
+        ),
+        (
+            Ports {
+                out_chunk: 4,
+                out_fails: &[2],
+                ..SMOOTH
+            },
+            4,
+            b"answ",
+            b"write fault\n",
+        ),
+    ];
+    for (ports, status, out, err) in cases {
+        let ended = called(&rt, rt.alloc(), &["run"], input, ports)?;
+        assert_eq!(rt; ended.status, status, "status where {status} is due");
+        assert_eq!(rt; ended.out.as_slice(), out, "output at status {status}");
+        assert_eq!(rt;
+            ended.err.as_slice(),
+            err,
+            "error output at status {status}"
+        );
+    }
+    Ok(())
+}
+
 // A refusal whose line is cut by a fault of the error output.
 #[test]
 fn a_refusal_cut_by_a_fault(rt: HostRuntime) -> Result<(), Fail> {

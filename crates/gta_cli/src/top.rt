@@ -75,9 +75,10 @@ pub fn gta_main<R: Threads + Sync, S: Source, O: Sink, E: Sink>(
     ensures usage { result ≡ USAGE → (command_of (map string_bytes words.now) ≡ None) × (source.new ≡ source.old)
         × Appends (E.gone err.old) (E.gone err.new) usage_line }
 
-    // Read fault: a command was asked for, and the source's count of faults rose.
+    // Read fault: a command that reads was asked for, and the source's count of faults rose.
     ensures read_failed { result ≡ READ_FAULT →
-        IsSome (command_of (map string_bytes words.now)) × Rose (S.faults source.old) (S.faults source.new) }
+        IsSomeAnd (command_of (map string_bytes words.now)) (λ command. IsDrill command → ⊥)
+        × Rose (S.faults source.old) (S.faults source.new) }
 
     // Write fault: what was due, and whose count of faults rose.
     ensures write_failed { result ≡ WRITE_FAULT →

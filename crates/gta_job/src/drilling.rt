@@ -3,7 +3,9 @@
 
 ghost use Rattle.std.specs.Prelude.{◌≡◌, ◌≤◌, [], None, IfOk, IfErr, OnOk};
 ghost use Rattle.drill_texts.specs.Drills as texts;
+ghost use Rattle.drill_texts.specs.declared.table.TheConstants.{ROWS_LIMIT};
 ghost use Rattle.gta_words.specs.declared.words.Command.TheVariants as commands;
+ghost use Rattle.gta_words.specs.declared.words.TheConstants.{LEAF_LIMIT, WORKER_LIMIT};
 ghost use Rattle.gta_job.specs.Ends.{IsEndOf};
 ghost use Rattle.gta_job.specs.Jobs.{job_refusal, refusal_of_part, report_of_part, text_of};
 
@@ -24,11 +26,11 @@ pub fn drill_job<R: Threads + Sync>(
     leaf: u32,
 ) -> Result<Vec<u8>, JobEnd>
     requires a_row { 1 ≤ rows }
-    requires few_rows { rows ≤ 20000 }
+    requires few_rows { rows ≤ ROWS_LIMIT }
     requires some_workers { 1 ≤ workers }
-    requires few_workers { workers ≤ 64 }
+    requires few_workers { workers ≤ WORKER_LIMIT }
     requires some_leaf { 1 ≤ leaf }
-    requires few_leaf { leaf ≤ 65536 }
+    requires few_leaf { leaf ≤ LEAF_LIMIT }
     ensures accepted { OnOk result (job_refusal (commands.Drill seed rows workers leaf) [] ≡ None) }
     ensures text { IfOk result (λ text. text.items ≡ text_of (commands.Drill seed rows workers leaf) []) }
     ensures refused { IfErr result (IsEndOf (job_refusal (commands.Drill seed rows workers leaf) [])) }
@@ -53,11 +55,11 @@ fn part_report<R: Threads + Sync>(
     workers: u32,
     leaf: u32,
 ) -> Result<Vec<u8>, JobEnd>
-    requires few_rows { rows ≤ 20000 }
+    requires few_rows { rows ≤ ROWS_LIMIT }
     requires some_workers { 1 ≤ workers }
-    requires few_workers { workers ≤ 64 }
+    requires few_workers { workers ≤ WORKER_LIMIT }
     requires some_leaf { 1 ≤ leaf }
-    requires few_leaf { leaf ≤ 65536 }
+    requires few_leaf { leaf ≤ LEAF_LIMIT }
     ensures accepted { OnOk result (refusal_of_part leaf seed rows drill ≡ None) }
     ensures text { IfOk result (λ text. text.items ≡ report_of_part seed rows drill) }
     ensures refused { IfErr result (IsEndOf (refusal_of_part leaf seed rows drill)) }

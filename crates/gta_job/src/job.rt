@@ -3,6 +3,8 @@
 
 ghost use Rattle.std.specs.Prelude.{◌≡◌, ◌≤◌, drop, length, None, Some, Ok, IfOk, IfErr, OnOk};
 ghost use Rattle.gta_words.specs.declared.words.Command.TheVariants.{Run, Show};
+ghost use Rattle.gta_words.specs.declared.words.TheConstants.{LEAF_LIMIT, WORKER_LIMIT};
+ghost use Rattle.gta_text.specs.declared.lines.TheConstants.{INPUT_BOUND};
 ghost use Rattle.gta_spec.specs.Parts.{spec_tree};
 ghost use Rattle.gta_spec.specs.WellFormed.{IsWellFormed};
 ghost use Rattle.gta_syntax.specs.Refusals.{read_tree, spec_of};
@@ -134,11 +136,11 @@ pub fn answer_job<R: Threads + Sync>(
     workers: u32,
     leaf: u32,
 ) -> Result<Vec<u8>, JobEnd>
-    requires within { length bytes.now ≤ 67108864 }
+    requires within { length bytes.now ≤ INPUT_BOUND }
     requires some_workers { 1 ≤ workers }
-    requires few_workers { workers ≤ 64 }
-    requires some_rows { 1 ≤ leaf }
-    requires few_rows { leaf ≤ 65536 }
+    requires few_workers { workers ≤ WORKER_LIMIT }
+    requires some_leaf { 1 ≤ leaf }
+    requires few_leaf { leaf ≤ LEAF_LIMIT }
     ensures accepted { OnOk result (job_refusal (Run workers leaf) bytes.now ≡ None) }
     ensures text { IfOk result (λ text. text.items ≡ text_of (Run workers leaf) bytes.now) }
     ensures refused { IfErr result (IsEndOf (job_refusal (Run workers leaf) bytes.now)) }
@@ -156,11 +158,11 @@ pub fn answer_with<R: Threads + Sync, G: Gate + Sync>(
     leaf: u32,
     gate: &G,
 ) -> Result<Vec<u8>, JobEnd>
-    requires within { length bytes.now ≤ 67108864 }
+    requires within { length bytes.now ≤ INPUT_BOUND }
     requires some_workers { 1 ≤ workers }
-    requires few_workers { workers ≤ 64 }
-    requires some_rows { 1 ≤ leaf }
-    requires few_rows { leaf ≤ 65536 }
+    requires few_workers { workers ≤ WORKER_LIMIT }
+    requires some_leaf { 1 ≤ leaf }
+    requires few_leaf { leaf ≤ LEAF_LIMIT }
     ensures accepted { OnOk result (job_refusal (Run workers leaf) bytes.now ≡ None) }
     ensures text { IfOk result (λ text. text.items ≡ text_of (Run workers leaf) bytes.now) }
     ensures refused { IfErr result (IsEndOf (job_refusal (Run workers leaf) bytes.now)) }
@@ -173,7 +175,7 @@ pub fn answer_with<R: Threads + Sync, G: Gate + Sync>(
 /// The canonical text of the specification that the bytes hold, or its refusal. The table is not looked at.
 #[tactic(auto, unfolding(crate::specs::Jobs::job_refusal))]
 pub fn show_job(alloc: Global, bytes: &[u8]) -> Result<Vec<u8>, JobEnd>
-    requires within { length bytes.now ≤ 67108864 }
+    requires within { length bytes.now ≤ INPUT_BOUND }
     ensures accepted { OnOk result (job_refusal Show bytes.now ≡ None) }
     ensures text { IfOk result (λ text. text.items ≡ text_of Show bytes.now) }
     ensures refused { IfErr result (IsEndOf (job_refusal Show bytes.now)) }
@@ -184,7 +186,7 @@ pub fn show_job(alloc: Global, bytes: &[u8]) -> Result<Vec<u8>, JobEnd>
 
 /// The specification that the bytes hold, as it is read and as it is resolved, or its refusal.
 pub(crate) fn checked_spec(alloc: Global, bytes: &[u8]) -> Result<(Read, Checked), JobEnd>
-    requires within { length bytes.now ≤ 67108864 }
+    requires within { length bytes.now ≤ INPUT_BOUND }
     ensures read { IfOk result (λ taken. spec_of bytes.now ≡ Ok (read_tree taken.0)) }
     ensures well_formed { IfOk result (λ taken. IsWellFormed (spec_tree taken.0.spec)) }
     ensures sound { IfOk result (λ taken. check_fault (spec_tree taken.0.spec) ≡ None) }

@@ -32,7 +32,7 @@ pub const MARK_LIMIT: u64 = 4194304;
 /// The list of the candidates that pass, in their order, or the refusal of the job that the bytes hold.
 #[tactic(auto, unfolding(crate::specs::Jobs::job_refusal))]
 pub fn list_job(alloc: Global, bytes: &[u8]) -> Result<Vec<u8>, JobEnd>
-    requires within { length bytes.now ≤ 67108864 }
+    requires within { length bytes.now ≤ INPUT_BOUND }
     ensures accepted { OnOk result (job_refusal ListKept bytes.now ≡ None) }
     ensures text { IfOk result (λ text. text.items ≡ text_of ListKept bytes.now) }
     ensures refused { IfErr result (IsEndOf (job_refusal ListKept bytes.now)) }

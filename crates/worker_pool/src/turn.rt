@@ -28,7 +28,7 @@ pub(crate) enum Turn<V> {
     Missed(Pocket<V>),
     /// The board doesn't take the piece.
     Refused(Piece<V>),
-    /// The board has no pair.
+    /// The board has no pair, or no room for one.
     Drained,
     /// There was no memory for a leaf or a join, and nothing is in hand.
     Memory,

@@ -19,6 +19,7 @@ use board_table::{Board, Seat};
 use interval_kit::{Cut, Fused, Piece};
 use std::alloc::Global;
 use std::sync::ledger::Ledger;
+use std::thread;
 use steal_deal::{Blocks, Hand};
 use step_count::Steps;
 
@@ -31,7 +32,7 @@ const POCKET_ROOM: usize = 2;
 /// Why a worker ended.
 #[derive(Clone, Copy, PartialEq, Eq, Debug)]
 pub enum WorkEnd {
-    /// There was no leaf left, and no pair.
+    /// There was no leaf left, and the board had no pair, or no room for one.
     Drained,
     /// Another caller had the board too often.
     Idle,
@@ -98,6 +99,7 @@ pub(crate) fn take_turns<F: Fused, G: Gate, L: Ledger>(
                         end: WorkEnd::Idle,
                     };
                 }
+                thread::yield_now();
                 pocket = left;
             }
             Turn::Refused(piece) => {

@@ -142,6 +142,30 @@ fn sums_that_are_compared(rt: HostRuntime) -> Result<(), Fail> {
                 b"",
             ),
             (
+                b"generate sublists\ntest sum v = 2\naggregate max v\n",
+                b"1\n1\n1\n",
+                b"answer 2\n",
+                b"",
+            ),
+            (
+                b"generate sublists\ntest sum v <= 2\naggregate max v\n",
+                b"1\n1\n1\n",
+                b"answer 2\n",
+                b"",
+            ),
+            (
+                b"test sum v <= 8190\ngenerate sublists\naggregate count\n",
+                b"1\n",
+                b"answer 2\n",
+                b"",
+            ),
+            (
+                b"test sum v <= 8191\ngenerate sublists\naggregate count\n",
+                b"1\n",
+                b"",
+                b"refused 25: line 3: limit bound\n",
+            ),
+            (
                 b"generate sublists\ntest sum v >= 8190\naggregate max v\n",
                 b"4611686018427387903\n",
                 b"answer 4611686018427387903\n",
@@ -239,6 +263,12 @@ fn values_that_are_refused(rt: HostRuntime) -> Result<(), Fail> {
                 b"4611686018427387903\n1\n-2\n",
                 b"",
                 b"refused 40: test 1, row 3: value -2 is negative\n",
+            ),
+            (
+                b"generate sublists\ntest sum v <= 5\naggregate max v\n",
+                b"-3\n",
+                b"",
+                b"refused 40: test 1, row 1: value -3 is negative\n",
             ),
             (
                 b"labels A B\ngenerate assign\nmeasure cost = 3*v if label B\n\

@@ -6,7 +6,25 @@ use std::test::Fail;
 // The lines of a job and its cells, and what `list` prints to the output and to the error output.
 #[test]
 fn candidates_that_are_listed(rt: HostRuntime) -> Result<(), Fail> {
-    let cases: [(&[u8], &[u8], &[u8], &[u8]); 7] = [
+    let cases: [(&[u8], &[u8], &[u8], &[u8]); 10] = [
+        (
+            b"generate sublists\ntest sum v <= 3\naggregate best 3 max v\n",
+            b"1\n2\n3\n",
+            b"kept 5\n-\n3\n2\n1\n1 2\n",
+            b"",
+        ),
+        (
+            b"generate prefixes\naggregate count\n",
+            b"3\n-1\n4\n",
+            b"kept 4\n-\n1\n1 2\n1 2 3\n",
+            b"",
+        ),
+        (
+            b"generate sublists\naggregate count\n",
+            b"1\n1\n1\n1\n1\n1\n1\n1\n1\n1\n1\n1\n1\n1\n1\n1\n1\n",
+            b"",
+            b"refused 44: too many candidates to list\n",
+        ),
         (
             b"generate sublists\ntest sum v = 2\naggregate count\n",
             b"1\n1\n1\n",
@@ -89,8 +107,7 @@ fn a_drill_of_three_rows(rt: HostRuntime) -> Result<(), Fail> {
 // The words of a drill of 2000 rows. All print the same.
 #[test]
 fn a_drill_by_any_crew(rt: HostRuntime) -> Result<(), Fail> {
-    let lists: [&[&str]; 7] = [
-        &["drill", "7", "2000"],
+    let lists: [&[&str]; 6] = [
         &["drill", "7", "2000", "--workers", "1", "--leaf", "1"],
         &["drill", "7", "2000", "--workers", "1", "--leaf", "64"],
         &["drill", "7", "2000", "--workers", "1", "--leaf", "65536"],
@@ -118,8 +135,9 @@ fn a_drill_by_any_crew(rt: HostRuntime) -> Result<(), Fail> {
 }
 
 #[test]
-fn words_past_the_limits(rt: HostRuntime) -> Result<(), Fail> {
-    let lists: [&[&str]; 9] = [
+fn words_with_options_that_are_no_command(rt: HostRuntime) -> Result<(), Fail> {
+    let lists: [&[&str]; 10] = [
+        &["run", "--workers", "0"],
         &["list", "x"],
         &["list", "--leaf", "1"],
         &["drill", "7"],

@@ -43,8 +43,20 @@ fn sums_by_remainder(rt: HostRuntime) -> Result<(), Fail> {
                 b"",
             ),
             (
+                b"generate sublists\ntest sum v mod 3 = 0\naggregate max v\n",
+                b"1\n2\n3\n4\n5\n",
+                b"answer 15\n",
+                b"",
+            ),
+            (
                 b"generate sublists\ntest sum v mod 2 = 1\naggregate count\n",
                 b"-3\n",
+                b"answer 1\n",
+                b"",
+            ),
+            (
+                b"generate sublists\ntest sum v mod 2 = 1\naggregate count\n",
+                b"1\n",
                 b"answer 1\n",
                 b"",
             ),
@@ -86,6 +98,12 @@ fn lengths(rt: HostRuntime) -> Result<(), Fail> {
                 b"generate sublists\ntest length = 3\naggregate count\n",
                 b"1\n1\n1\n1\n1\n1\n1\n1\n1\n1\n",
                 b"answer 120\n",
+                b"",
+            ),
+            (
+                b"generate sublists\ntest length = 3\naggregate max v\n",
+                b"1\n1\n1\n1\n1\n1\n1\n1\n1\n1\n",
+                b"answer 3\n",
                 b"",
             ),
             (
@@ -192,6 +210,18 @@ fn several_tests(rt: HostRuntime) -> Result<(), Fail> {
             ),
             (
                 b"generate sublists\ntest sum v <= 100\ntest sum v >= 100\naggregate max v\n",
+                b"1\n",
+                b"",
+                b"refused 42: 10404 keys past 8192\n",
+            ),
+            (
+                b"generate sublists\ntest sum v <= 90\ntest length <= 90\naggregate count\n",
+                b"",
+                b"",
+                b"refused 42: 8464 keys past 8192\n",
+            ),
+            (
+                b"generate sublists\ntest sum v <= 100\ntest sum v >= 100\naggregate max v\n",
                 b"4611686018427387903\n1\n",
                 b"",
                 b"refused 41: row 2: weight total past 4611686018427387903\n",
@@ -212,6 +242,16 @@ fn folds_over_a_table(rt: HostRuntime) -> Result<(), Fail> {
                 b"generate sublists\ntest fold t by a accept a\naggregate count\n",
                 b"5\n6\n7\n",
                 b"answer 4\n",
+            ),
+            (
+                b"generate sublists\ntest fold t by a accept e\naggregate count\n",
+                b"5\n6\n7\n",
+                b"answer 4\n",
+            ),
+            (
+                b"generate sublists\ntest fold t by a accept e\naggregate max v\n",
+                b"5\n6\n7\n",
+                b"answer 13\n",
             ),
             (
                 b"generate sublists\ntest fold t by a accept e a\naggregate max v\n",

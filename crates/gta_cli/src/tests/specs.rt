@@ -8,7 +8,7 @@ use std::test::Fail;
 // A specification, and the line of its first refusal.
 #[test]
 fn refusals_in_their_order(rt: HostRuntime) -> Result<(), Fail> {
-    let cases: [(&[u8], &[u8]); 42] = [
+    let cases: [(&[u8], &[u8]); 43] = [
         (
             b"gta 2\ncolumns v # \xc3\n",
             b"refused 10: line 2, byte 13: not printable ASCII\n",
@@ -153,6 +153,11 @@ fn refusals_in_their_order(rt: HostRuntime) -> Result<(), Fail> {
         (
             b"gta 1\ncolumns v\ngenerate sublists\ntable t unit e elements e a b\ntimes t e = e a b\n\
               times t a = a b a\ntimes t b = b b b\ntest fold t by a accept e\naggregate count\nrows\nv\n1\n",
+            b"refused 27: table t: not associative at a a a\n",
+        ),
+        (
+            b"gta 1\ncolumns v\ngenerate suffixes\ntable t unit e elements e a b\ntimes t e = e a b\n\
+              times t a = a b a\ntimes t b = b b e\naggregate count\nrows\n",
             b"refused 27: table t: not associative at a a a\n",
         ),
         (
@@ -430,8 +435,10 @@ fn canonical_texts(rt: HostRuntime) -> Result<(), Fail> {
             b"gta 1\ncolumns v\ngenerate suffixes\naggregate any\nrows\n",
         ),
         (
-            b"gta 1\ncolumns v\ngenerate prefixes\ntest sum v = -0\ntest length mod 3 = 2\naggregate best 2 min v\nrows",
-            b"gta 1\ncolumns v\ngenerate prefixes\ntest sum v = 0\ntest length mod 3 = 2\naggregate best 2 min v\nrows\n",
+            b"gta 1\ncolumns v\ngenerate prefixes\ntest sum v = -0\ntest length mod 3 = 2\n\
+              aggregate best 2 min v\nrows",
+            b"gta 1\ncolumns v\ngenerate prefixes\ntest sum v = 0\ntest length mod 3 = 2\n\
+              aggregate best 2 min v\nrows\n",
         ),
         (
             b"gta 1\ncolumns v\nmeasure m=-0+v\ngenerate segments\naggregate count\nrows",

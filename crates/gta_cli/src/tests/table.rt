@@ -139,3 +139,32 @@ fn the_most_rows(rt: HostRuntime) -> Result<(), Fail> {
     }
     Ok(())
 }
+
+// A table, and its refusal where the candidates are counted.
+#[test]
+fn tables_of_a_count(rt: HostRuntime) -> Result<(), Fail> {
+    let cases: [(&[u8], &[u8]); 5] = [
+        (b"", b"refused 31: no header\n"),
+        (b"w\n", b"refused 32: column v missing\n"),
+        (b"v,v\n", b"refused 33: column v twice\n"),
+        (
+            b"v,w\nx,1\n2\n",
+            b"refused 34: row 2: 1 fields, header has 2\n",
+        ),
+        (b"v\n1.5\n", BAD_CELL),
+    ];
+    for (table, err) in cases {
+        let mut input = Vec::from_slice(
+            rt.alloc(),
+            b"gta 1\ncolumns v\ngenerate sublists\naggregate count\nrows\n",
+        )?;
+        input.extend_from_slice(table)?;
+        for word in ["run", "list"] {
+            let ended = called(&rt, rt.alloc(), &[word], input.as_slice(), SMOOTH)?;
+            assert_eq!(rt; ended.status, 1, "status at {table:?}");
+            assert_eq!(rt; ended.out.len(), 0, "output at {table:?}");
+            assert_eq!(rt; ended.err.as_slice(), err, "error output at {table:?}");
+        }
+    }
+    Ok(())
+}

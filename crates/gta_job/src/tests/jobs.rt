@@ -37,7 +37,12 @@ fn told<R: Threads + Abort + Sync>(
 
 #[test]
 fn answers_by_any_workers_and_leaf(rt: HostRuntime) -> Result<(), Fail> {
-    let cases: [(&[u8], &[u8]); 8] = [
+    let cases: [(&[u8], &[u8]); 9] = [
+        (
+            b"gta 1\ncolumns v\ngenerate segments\naggregate best 1 max v\nrows\n\
+              v\n-2\n1\n-3\n4\n-1\n2\n1\n-5\n4\n",
+            b"answer 1\n1 6 4 5 6 7\n",
+        ),
         (
             b"gta 1\ncolumns v\ngenerate segments\naggregate max v\nrows\n\
               v\n-2\n1\n-3\n4\n-1\n2\n1\n-5\n4\n",
@@ -90,21 +95,21 @@ fn answers_by_any_workers_and_leaf(rt: HostRuntime) -> Result<(), Fail> {
     Ok(())
 }
 
-// The number of rows, each a 0, and of the rows of a leaf, with 4 components and 8192 keys.
+// The number of rows, each a 1, and of the rows of a leaf, with 4 components and 8192 keys.
 #[test]
 fn sizes_past_the_limit(rt: HostRuntime) -> Result<(), Fail> {
     let cases: [(u32, u32, &[u8]); 3] = [
-        (2048, 1, b"answer 2098177\n"),
+        (2048, 1, b"answer 1\n"),
         (2049, 1, b"refused 43: size 67141632 past 67108864\n"),
         (4097, 2, b"refused 43: size 67141632 past 67108864\n"),
     ];
     for (count, leaf, line) in cases {
         let mut input = Vec::from_slice(
             rt.alloc(),
-            b"gta 1\ncolumns v\ngenerate segments\ntest sum v <= 8190\naggregate count\nrows\nv\n",
+            b"gta 1\ncolumns v\ngenerate segments\ntest sum v mod 8192 = 0\naggregate count\nrows\nv\n",
         )?;
         for _ in 0..count {
-            input.extend_from_slice(b"0\n")?;
+            input.extend_from_slice(b"1\n")?;
         }
         let text = told(&rt, rt.alloc(), input.as_slice(), 4, leaf)?;
         assert_eq!(rt; text.as_slice(), line, "{count} rows by leaves of {leaf}");
