@@ -1,7 +1,7 @@
 //! The board: its lists, and the calls on it. Each call is what specs/Calls.antt says.
 //! The lists are in ascending order and have all their room from the start.
-//! A pair is taken and settled near the front, and a higher piece comes in near the back:
-//! pieces and claims stand in queues, where the shorter side of a place moves.
+//! Pieces and claims stand in queues, where a put or a take moves the shorter side of its place:
+//! pairs are mostly taken and settled near the front, and higher pieces come in near the back.
 
 ghost use Rattle.std.specs.Prelude.{◌≡◌, ◌+◌, ◌<◌, ◌≤◌, ◌++◌, ◌∷◌, [], IfOk};
 ghost use Rattle.std.specs.Vec.{vec_len, vec_capacity};
@@ -51,7 +51,7 @@ impl<V> Core<V> {
         &self.log
     }
 
-    /// The board's own lists. It takes no memory, and moves a piece or a claim a few times at most.
+    /// The board's own lists. It takes no memory, and time that grows with their lengths.
     pub fn into_lists(self) -> Lists<V>
         ensures held { result.held.items ≡ self.held }
         ensures claimed { result.claimed.items ≡ self.claims }
