@@ -347,28 +347,21 @@ module _ {W : Type 0} (held : List (Piece W)) (at : ℕ) (x y : Piece W) (some :
   second_at : y ≡ get_or held (suc (at - 1)) y
   second_at = let same : at ≡ suc (at - 1) = omega arith in second ∙ ap (λ n. get_or held n y) same
 
-  -- what the test reads is what the two pieces are
-  ends : (get_or held (at - 1) x).hi ≡ x.hi
-  ends = sym (ap (λ (p : Piece W). p.hi) first)
-
-  begins : (get_or held at y).lo ≡ y.lo
-  begins = sym (ap (λ (p : Piece W). p.lo) second)
-
-  pub walk_on : (get_or held (at - 1) x).hi ≢ (get_or held at y).lo → ((k : ℕ) → suc k < at → ¬ AdjoinAt held k) → (k : ℕ) → suc k < at + 1 → ¬ AdjoinAt held k
+  pub walk_on : x.hi ≢ y.lo → ((k : ℕ) → suc k < at → ¬ AdjoinAt held k) → (k : ℕ) → suc k < at + 1 → ¬ AdjoinAt held k
   walk_on differ before k under adjoin =
       elim (last_or_before k at under) [
         | inl earlier ↦ before k earlier adjoin
         | inr last ↦
             let N : ℕ → Type 0 = λ n. ¬ AdjoinAt held n in
-            subst N last (no_pair_at held (at - 1) x y (omega arith) first second_at (λ same. differ (ends ∙ same ∙ sym begins))) adjoin
+            subst N last (no_pair_at held (at - 1) x y (omega arith) first second_at differ) adjoin
       ]
     where
       last_or_before : (k at : ℕ) → suc k < at + 1 → (suc k < at) ⊎ (at - 1 ≡ k)
       last_or_before k at under = grind arith
 
-  pub walk_found : (get_or held (at - 1) x).hi ≡ (get_or held at y).lo → ((k : ℕ) → suc k < at → ¬ AdjoinAt held k) → (at - 1 ≡ pair_index held) × IsSome (first_pair held)
+  pub walk_found : x.hi ≡ y.lo → ((k : ℕ) → suc k < at → ¬ AdjoinAt held k) → (at - 1 ≡ pair_index held) × IsSome (first_pair held)
   walk_found same before =
-      index_is held (at - 1) (omega arith) (λ k below. before k (omega arith)) (pair_read_at held (at - 1) x y (omega arith) first second_at (sym ends ∙ same ∙ begins))
+      index_is held (at - 1) (omega arith) (λ k below. before k (omega arith)) (pair_read_at held (at - 1) x y (omega arith) first second_at same)
 
 pub some_is : {X : Type 0} (o : Option X) → IsSome o → (x : X) × (o ≡ Some x)
 some_is None found = cc

@@ -1,5 +1,7 @@
 //! The board: its lists, and the calls on it. Each call is what specs/Calls.antt says.
 //! The lists are in ascending order and have all their room from the start.
+//! Pieces and claims stand in queues, where a put or a take moves the shorter side of its place:
+//! pairs are mostly taken and settled near the front, and higher pieces come in near the back.
 
 ghost use Rattle.std.specs.Prelude.{◌≡◌, ◌+◌, ◌<◌, ◌≤◌, ◌++◌, ◌∷◌, [], IfOk};
 ghost use Rattle.std.specs.Vec.{vec_len, vec_capacity};
@@ -12,6 +14,7 @@ use crate::places::{drop_claim, lies_clear, pair_place, put, take_pair};
 use crate::taken::{Claim, CoreClaimed, CoreOffered, Lists, Taken};
 use interval_kit::Piece;
 use std::alloc::{AllocError, Global};
+use std::collections::VecDeque;
 use std::marker::Model;
 
 #[cfg(test)]
@@ -23,8 +26,8 @@ mod tests;
 pub struct Core<V> {
     rows: u32,
     room: u32,
-    held: Vec<Piece<V>>,
-    claims: Vec<Claim>,
+    held: VecDeque<Piece<V>>,
+    claims: VecDeque<Claim>,
     log: Vec<Logged>,
 }
 
@@ -48,7 +51,7 @@ impl<V> Core<V> {
         &self.log
     }
 
-    /// The board's own lists. It takes no memory.
+    /// The board's own lists. It takes no memory, and time that grows with their lengths.
     pub fn into_lists(self) -> Lists<V>
         ensures held { result.held.items ≡ self.held }
         ensures claimed { result.claimed.items ≡ self.claims }
@@ -63,8 +66,8 @@ impl<V> Core<V> {
             log,
         } = self;
         Lists {
-            held,
-            claimed: claims,
+            held: held.into_vec(),
+            claimed: claims.into_vec(),
             log,
         }
     }
@@ -85,15 +88,15 @@ impl<V: Drop> Core<V> {
         Ok(Core {
             rows,
             room,
-            held: Vec::with_capacity(alloc, room as usize)?,
-            claims: Vec::with_capacity(alloc, room as usize)?,
+            held: VecDeque::with_capacity(alloc, room as usize)?,
+            claims: VecDeque::with_capacity(alloc, room as usize)?,
             log: Vec::with_capacity(alloc, room as usize)?,
         })
     }
 
     /// Holds the piece. Overlaps and Full hand it back, and the board is as before.
     /// It finds the piece's place by halving, and looks at the neighbours alone.
-    /// What is held above the place then moves up by one.
+    /// What is held below the place or above it then moves by one, whichever is less.
     pub fn offer(&mut self, who: u32, piece: Piece<V>) -> CoreOffered<V>
         requires nonempty { piece.lo < piece.hi }
         requires within { piece.hi ≤ self.old.rows }
@@ -115,7 +118,8 @@ impl<V: Drop> Core<V> {
 
     /// Hands out the adjacent pair of held pieces that begins lowest. Both leave the held ones,
     /// and their joint interval is claimed until the pair is settled or put back.
-    /// NoPair and Full leave the board as before. It walks over the held pieces once.
+    /// NoPair and Full leave the board as before. It walks over the held pieces up to the pair,
+    /// and what is held below it or above it moves by two, whichever is less.
     pub fn claim(&mut self, who: u32) -> CoreClaimed<V>
         ensures answer { Claims self.old who result self.new }
         ensures plainly { AnswersPlainly self.old result self.new }
@@ -136,7 +140,7 @@ impl<V: Drop> Core<V> {
     }
 
     /// Ends the claim, and holds the joint interval with the value.
-    /// It finds the claim and the place by halving; what stands above them moves by one.
+    /// It finds the claim and the place by halving; the shorter side of each moves by one.
     pub fn settle(&mut self, taken: Taken<V>, value: V)
         requires is_claim { IsClaim taken self.old.claims }
         ensures settled { self.new ≡ with_settle self.old taken value }
@@ -151,7 +155,7 @@ impl<V: Drop> Core<V> {
     }
 
     /// Ends the claim, and holds both pieces again.
-    /// It finds the claim and the places by halving; what stands above them moves by one.
+    /// It finds the claim and the places by halving; the shorter side of each moves by one.
     pub fn put_back(&mut self, taken: Taken<V>)
         requires is_claim { IsClaim taken self.old.claims }
         ensures put_back { self.new ≡ with_put_back self.old taken }

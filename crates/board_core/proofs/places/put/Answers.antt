@@ -10,6 +10,5 @@ returns-clause-items g c =
     let x = c.args.interval in
     c.in-Ok.ensures.items
     ∙ ap (λ i. insert xs i x) (c.place-at.ensures.index
-    ∙ ap (λ ys. place_of g.I.Interval.lo c.lo.result ys) c.deref.ensures.value
     ∙ ap (λ n. place_of g.I.Interval.lo n xs) c.lo.ensures)
     ∙ insert_place g.I.Interval.lo x xs

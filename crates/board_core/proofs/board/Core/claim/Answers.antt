@@ -1,4 +1,4 @@
-use Rattle.std.proofs.Common.{rules, arith, ◌≡◌, ◌∙◌, List, ap, subst, refl}
+use Rattle.std.proofs.Common.{rules, arith, ◌≡◌, List, ap, subst, refl}
 use Rattle.std.specs.Prelude.{IsSome}
 use Rattle.interval_kit.specs.declared.piece.Piece.{Piece}
 use Rattle.board_core.specs.declared.taken.CoreClaimed.TheVariants as claimed
@@ -12,7 +12,7 @@ use Rattle.board_core.proofs.board.Core.claim.Goals as goal
 pub returns-then-free-lt2-clause-answer : goal.returns-then-free-lt2-clause-answer
 returns-then-free-lt2-clause-answer g c =
     let S : List (Piece g.row.V.Denot) → Type 0 = λ xs. IsSome (first_pair xs) in
-    let held : c.deref.result.now ≡ c.args.self.now.held = c.deref.ensures.value ∙ ap (λ (b : PlainBoard g.row.V.Denot). b.held) c.self.view_is in
+    let held : c.self.inside.held.items ≡ c.args.self.now.held = ap (λ (b : PlainBoard g.row.V.Denot). b.held) c.self.view_is in
     let pair = some_is (first_pair c.args.self.now.held) (subst S held (c.in-Some.ensures.found refl)) in
     (pair.0, pair.1, omega (arith, c.free.ensures, c.if-free-lt2.true), refl)
 

@@ -1,9 +1,6 @@
-use Rattle.std.proofs.Common.{rules, arith, List, sym, subst}
-use Rattle.interval_kit.specs.declared.piece.Piece.{Piece}
-use Rattle.board_core.specs.declared.taken.Claim.{Claim}
+use Rattle.std.proofs.Common.{rules, arith, subst}
 use Rattle.board_core.specs.declared.taken.CoreOffered.TheVariants as offered
 use Rattle.board_core.specs.Board.{PlainBoard, plain}
-use Rattle.board_core.specs.Places.{AreApart}
 use Rattle.board_core.specs.Sound.{IsSound}
 use Rattle.board_core.proofs.Keeps.{offers_sound}
 use Rattle.board_core.proofs.PlaceLemmas.{held_apart, claims_apart}
@@ -11,15 +8,11 @@ use Rattle.board_core.proofs.board.Core.offer.Goals as goal
 
 pub lies_clear-requires-clause-apart : goal.lies_clear-requires-clause-apart
 lies_clear-requires-clause-apart g c =
-    let P : List (Piece g.row.V.Denot) → Type 0 = λ xs. AreApart (λ p. p.lo) (λ p. p.hi) xs in
-    subst P (sym c.deref.ensures.value)
-    (held_apart (plain c.self.inside.rows c.self.inside.room c.self.inside.held.items c.self.inside.claims.items c.self.inside.log.items) c.self.invariant.sound.tidy)
+    held_apart (plain c.self.inside.rows c.self.inside.room c.self.inside.held.items c.self.inside.claims.items c.self.inside.log.items) c.self.invariant.sound.tidy
 
 pub lies_clear-requires-else-not-lies_clear-clause-apart : goal.lies_clear-requires-else-not-lies_clear-clause-apart
 lies_clear-requires-else-not-lies_clear-clause-apart g c =
-    let P : List Claim → Type 0 = λ xs. AreApart (λ d. d.lo) (λ d. d.hi) xs in
-    subst P (sym c.deref-else-not-lies_clear.ensures.value)
-    (claims_apart (plain c.self.inside.rows c.self.inside.room c.self.inside.held.items c.self.inside.claims.items c.self.inside.log.items) c.self.invariant.sound.tidy)
+    claims_apart (plain c.self.inside.rows c.self.inside.room c.self.inside.held.items c.self.inside.claims.items c.self.inside.log.items) c.self.invariant.sound.tidy
 
 pub returns-clause-answer : goal.returns-clause-answer
 returns-clause-answer g c = search rules
