@@ -13,6 +13,7 @@ use Rattle.gta_syntax.specs.Rules.{part_at}
 use Rattle.gta_spec.specs.SpecText.{is_version, has_past, AreParts, none, some, SpecText}
 use Rattle.gta_syntax.specs.Refusals.{ReadTree, first_past, the_part, with_part, parts_from, with_numbers, with_parts, with_lines, with_text, spec_of, read_tree, Refuses, Answers}
 use Rattle.gta_syntax.specs.Refused.{IsFirstOutside, IsFirstPast, IsRefused}
+use Rattle.gta_syntax.specs.ByGrammar.{GivesTexts, GivesRefusals}
 use Rattle.gta_spec.specs.WellFormed.{IsWellFormed}
 use Rattle.gta_spec.proofs.WellRead.{is_well_formed}
 use Rattle.gta_syntax.proofs.Sound.{part_takes}
@@ -146,18 +147,27 @@ pub says : (bytes : List ℕ) → Says bytes (spec_of bytes)
 unfolding spec_of
 says bytes = says_text bytes (read_lines bytes) refl
 
+read_as : (bytes : List ℕ) (spec : SpecTree) (place : ℕ) → spec_of bytes ≡ Ok (record { spec = spec; rows_at = place }) → SpecText bytes spec place
+read_as bytes spec place e = let P : Result ReadTree SpecFault → Type 0 = Says bytes in subst P e (says bytes)
+
+refused_as : (bytes : List ℕ) (fault : SpecFault) → spec_of bytes ≡ Err fault → IsRefused bytes fault
+refused_as bytes fault e = let P : Result ReadTree SpecFault → Type 0 = Says bytes in subst P e (says bytes)
+
+pub gives_texts : GivesTexts
+gives_texts bytes spec place = (read_as bytes spec place, spec_again)
+
+pub gives_refusals : GivesRefusals
+gives_refusals bytes fault = (refused_as bytes fault, refused_again)
+
 -- what was answered
 
 pub found : (bytes : List ℕ) (result : Result Read SpecFault) → Answers read_tree result (spec_of bytes) → IfOk result (λ read. SpecText bytes (spec_tree read.spec) read.rows_at)
-found bytes (Ok read) e = let P : Result ReadTree SpecFault → Type 0 = Says bytes in subst P e (says bytes)
+found bytes (Ok read) e = read_as bytes (spec_tree read.spec) read.rows_at e
 found bytes (Err fault) e = search rules
 
 pub fits : (bytes : List ℕ) (result : Result Read SpecFault) → Answers read_tree result (spec_of bytes) → IfOk result (λ read. IsWellFormed (spec_tree read.spec))
 fits bytes (Ok read) e = is_well_formed bytes (spec_tree read.spec) read.rows_at (found bytes (Ok read) e)
 fits bytes (Err fault) e = search rules
-
-refused_as : (bytes : List ℕ) (fault : SpecFault) → spec_of bytes ≡ Err fault → IsRefused bytes fault
-refused_as bytes fault e = let P : Result ReadTree SpecFault → Type 0 = Says bytes in subst P e (says bytes)
 
 refused_by : (bytes : List ℕ) (fault : SpecFault) → Refuses fault (spec_of bytes) → fault ≢ Memory → IsRefused bytes fault
 refused_by bytes (Byte l p) e other = refused_as bytes _ e

@@ -2,3 +2,4 @@ pub mod Rules
 pub mod Refusals
 pub mod Faults
 pub mod Refused
+pub mod ByGrammar

@@ -1,9 +1,11 @@
 //! Reading the text of a specification. Its parts are types of gta_spec, which has the grammar too.
 //! How a line is read from left to right is in specs/Rules.antt, and the refusals in their order are
-//! in specs/Refused.antt.
+//! in specs/Refused.antt. The whole as a function, `spec_of`, is in specs/Refusals.antt; that it gives
+//! what the grammar and the refusals say is in specs/ByGrammar.antt.
 #![tactic(auto)]
 
 mod fault;
+mod law;
 mod line_rules;
 mod measures;
 mod reading;
@@ -11,6 +13,7 @@ mod rules;
 mod symbols;
 
 pub use fault::SpecFault;
+pub use law::reading_is_the_grammar;
 pub use reading::{Read, read_spec};
 
 #[cfg(test)]
