@@ -40,7 +40,7 @@ impl Best {
 pub(crate) fn copied_all(alloc: Global, entries: &[Entry]) -> Result<Best, AllocError>
     ensures { IfOk result (λ best. best ≡ entries.now) }
 {
-    let mut copies = Vec::new(alloc);
+    let mut copies = Vec::with_capacity(alloc, entries.len())?;
     'copying: for entry in entries {
         copies.push(copied(alloc, entry)?)?;
     }

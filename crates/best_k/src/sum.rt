@@ -27,7 +27,7 @@ pub(crate) fn sum_of(
     requires right_in_order { Ascends (entry_order greatest) b.now }
     ensures { IfOk result (λ sum. sum ≡ first_of (entry_order greatest) k (a.now ++ b.now)) }
 {
-    let mut sum = Vec::new(alloc);
+    let mut sum = Vec::with_capacity(alloc, k.min(a.len() + b.len()))?;
     let mut left = 0;
     let mut right = 0;
     'merging: while sum.len() < k {
