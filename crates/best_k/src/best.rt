@@ -3,6 +3,7 @@ ghost use Rattle.std.specs.Prelude.{◌≡◌, IfOk};
 
 use crate::entry::{Entry, copied};
 use std::alloc::{AllocError, Global};
+use std::collections::VecDeque;
 use std::marker::Model;
 
 /// The best entries, the best one first, seen as their list.
@@ -33,6 +34,13 @@ impl Best {
         ensures { result ≡ entries.items }
     {
         Best { entries }
+    }
+
+    /// The entries, to be moved out one by one. Takes no memory.
+    pub(crate) fn into_queue(self) -> VecDeque<Entry>
+        ensures { result.items ≡ self }
+    {
+        VecDeque::from(self.entries)
     }
 }
 
