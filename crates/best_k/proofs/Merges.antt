@@ -1,7 +1,6 @@
 -- Two lists in order, merged, are the first k of both; and a merge taken entry by entry.
-use Rattle.std.proofs.Common.{◌≡◌, ℕ, zero, suc, ◌+◌, ◌-◌, ◌<◌, ◌≤◌, false, List, [], ◌∷◌, ◌++◌, length, take, drop, get_or, refl, sym, ap, subst, ◌∙◌, arith, append_assoc, add-one}
-use Rattle.std.proofs.Math.Seq.{drop-cons}
-use Rattle.std.proofs.lemmas.List.{append-nil, length-drop, drop_all}
+use Rattle.std.proofs.Common.{◌≡◌, ℕ, zero, suc, ◌+◌, ◌-◌, ◌<◌, ◌≤◌, false, Some, List, [], ◌∷◌, ◌++◌, take, slice_get, refl, sym, ap, subst, ◌∙◌, arith, append_assoc}
+use Rattle.std.proofs.lemmas.List.{append-nil}
 use Rattle.std.specs.declared.cmp.Ordering.{Ordering}
 use Rattle.std.specs.Ordering.{is_gt}
 use Rattle.std.proofs.lemmas.Cmp.{upto}
@@ -33,19 +32,20 @@ module _ {E : Type 0} (cmp : E → E → Ordering) where
   merged-right_only zero ys = refl
   merged-right_only (suc k) ys = refl
 
-  merged-left : (k : ℕ) (x : E) (xs ys : List E) → next_of cmp (x ∷ xs) ys ≡ Left
+  merged-left : (k : ℕ) (x : E) (xs ys : List E) → next_of cmp (Some x) (slice_get ys 0) ≡ Left
       → merged cmp (suc k) (x ∷ xs) ys ≡ x ∷ merged cmp k xs ys
   merged-left k x xs [] next = ap (λ l. x ∷ l) (sym (merged-left_only k xs))
   merged-left k x xs (y ∷ ys) next =
       by_test (is_gt (cmp x y)) (λ after. let other = rw after at next in cc) (λ not_after. rw not_after refl)
 
-  merged-right : (k : ℕ) (xs : List E) (y : E) (ys : List E) → next_of cmp xs (y ∷ ys) ≡ Right
+  merged-right : (k : ℕ) (xs : List E) (y : E) (ys : List E) → next_of cmp (slice_get xs 0) (Some y) ≡ Right
       → merged cmp (suc k) xs (y ∷ ys) ≡ y ∷ merged cmp k xs ys
   merged-right k [] y ys next = ap (λ l. y ∷ l) (sym (merged-right_only k ys))
   merged-right k (x ∷ xs) y ys next =
       by_test (is_gt (cmp x y)) (λ after. rw after refl) (λ not_after. let other = rw not_after at next in cc)
 
-  merged-end : (k : ℕ) (xs ys : List E) → next_of cmp xs ys ≡ End → merged cmp k xs ys ≡ []
+  merged-end : (k : ℕ) (xs ys : List E) → next_of cmp (slice_get xs 0) (slice_get ys 0) ≡ End
+      → merged cmp k xs ys ≡ []
   merged-end zero xs ys next = refl
   merged-end (suc k) [] [] next = refl
   merged-end (suc k) [] (y ∷ ys) next = cc
@@ -54,67 +54,39 @@ module _ {E : Type 0} (cmp : E → E → Ordering) where
       by_test (is_gt (cmp x y)) (λ after. let other = rw after at next in cc)
       (λ not_after. let other = rw not_after at next in cc)
 
-  pub next-left_only : (xs ys : List E) (i j : ℕ) → i < length xs → length ys ≤ j
-      → Left ≡ next_of cmp (drop i xs) (drop j ys)
-  next-left_only xs ys i j within past =
-      let rest = length-drop i xs in
-      rw (drop_all j ys past) (some_left (drop i xs) (omega (arith, rest)))
-    where
-      some_left : (s : List E) → 0 < length s → Left ≡ next_of cmp s []
-      some_left [] some = absurd (omega arith)
-      some_left (x ∷ s) some = refl
-
-  pub next-right_only : (xs ys : List E) (i j : ℕ) → length xs ≤ i → j < length ys
-      → Right ≡ next_of cmp (drop i xs) (drop j ys)
-  next-right_only xs ys i j past within =
-      let rest = length-drop j ys in
-      rw (drop_all i xs past) (some_right (drop j ys) (omega (arith, rest)))
-    where
-      some_right : (s : List E) → 0 < length s → Right ≡ next_of cmp [] s
-      some_right [] some = absurd (omega arith)
-      some_right (y ∷ s) some = refl
-
-  drop-at : (xs : List E) (i : ℕ) (x : E) → i < length xs → x ≡ get_or xs i x → drop i xs ≡ x ∷ drop (i + 1) xs
-  drop-at xs i x within is =
-      drop-cons xs i x within ∙ ap (λ y. y ∷ drop (suc i) xs) (sym is) ∙ ap (λ j. x ∷ drop j xs) (sym (add-one i))
-
-  module _ (k n : ℕ) (sum xs ys all : List E) (i j : ℕ)
-      (so_far : sum ++ merged cmp (k - n) (drop i xs) (drop j ys) ≡ all) where
-    pub merge_left : (x : E) → n < k → i < length xs → x ≡ get_or xs i x
-        → next_of cmp (drop i xs) (drop j ys) ≡ Left
-        → (sum ++ x ∷ []) ++ merged cmp (k - (n + 1)) (drop (i + 1) xs) (drop j ys) ≡ all
-    merge_left x few within is next =
-        let at = drop-at xs i x within is in
+  module _ (k n : ℕ) (sum xs ys all : List E) (so_far : sum ++ merged cmp (k - n) xs ys ≡ all) where
+    pub merge_left : (x : E) (rest : List E) → n < k → xs ≡ x ∷ rest
+        → next_of cmp (slice_get xs 0) (slice_get ys 0) ≡ Left
+        → (sum ++ x ∷ []) ++ merged cmp (k - (n + 1)) rest ys ≡ all
+    merge_left x rest few is next =
         let left : suc (k - (n + 1)) ≡ k - n = omega arith in
-        append_assoc sum (x ∷ []) (merged cmp (k - (n + 1)) (drop (i + 1) xs) (drop j ys))
+        append_assoc sum (x ∷ []) (merged cmp (k - (n + 1)) rest ys)
         ∙ ap (λ l. sum ++ l)
-        (sym (merged-left (k - (n + 1)) x (drop (i + 1) xs) (drop j ys)
-        (subst (λ l. next_of cmp l (drop j ys) ≡ Left) at next)))
-        ∙ ap (λ m. sum ++ merged cmp m (x ∷ drop (i + 1) xs) (drop j ys)) left
-        ∙ ap (λ l. sum ++ merged cmp (k - n) l (drop j ys)) (sym at) ∙ so_far
+        (sym (merged-left (k - (n + 1)) x rest ys
+        (subst (λ l. next_of cmp (slice_get l 0) (slice_get ys 0) ≡ Left) is next)))
+        ∙ ap (λ m. sum ++ merged cmp m (x ∷ rest) ys) left
+        ∙ ap (λ l. sum ++ merged cmp (k - n) l ys) (sym is) ∙ so_far
 
-    pub merge_right : (y : E) → n < k → j < length ys → y ≡ get_or ys j y
-        → next_of cmp (drop i xs) (drop j ys) ≡ Right
-        → (sum ++ y ∷ []) ++ merged cmp (k - (n + 1)) (drop i xs) (drop (j + 1) ys) ≡ all
-    merge_right y few within is next =
-        let at = drop-at ys j y within is in
+    pub merge_right : (y : E) (rest : List E) → n < k → ys ≡ y ∷ rest
+        → next_of cmp (slice_get xs 0) (slice_get ys 0) ≡ Right
+        → (sum ++ y ∷ []) ++ merged cmp (k - (n + 1)) xs rest ≡ all
+    merge_right y rest few is next =
         let left : suc (k - (n + 1)) ≡ k - n = omega arith in
-        append_assoc sum (y ∷ []) (merged cmp (k - (n + 1)) (drop i xs) (drop (j + 1) ys))
+        append_assoc sum (y ∷ []) (merged cmp (k - (n + 1)) xs rest)
         ∙ ap (λ l. sum ++ l)
-        (sym (merged-right (k - (n + 1)) (drop i xs) y (drop (j + 1) ys)
-        (subst (λ l. next_of cmp (drop i xs) l ≡ Right) at next)))
-        ∙ ap (λ m. sum ++ merged cmp m (drop i xs) (y ∷ drop (j + 1) ys)) left
-        ∙ ap (λ l. sum ++ merged cmp (k - n) (drop i xs) l) (sym at) ∙ so_far
+        (sym (merged-right (k - (n + 1)) xs y rest
+        (subst (λ l. next_of cmp (slice_get xs 0) (slice_get l 0) ≡ Right) is next)))
+        ∙ ap (λ m. sum ++ merged cmp m xs (y ∷ rest)) left
+        ∙ ap (λ l. sum ++ merged cmp (k - n) xs l) (sym is) ∙ so_far
 
-    pub merge_end : next_of cmp (drop i xs) (drop j ys) ≡ End → sum ≡ all
+    pub merge_end : next_of cmp (slice_get xs 0) (slice_get ys 0) ≡ End → sum ≡ all
     merge_end next =
-        sym (append-nil sum) ∙ ap (λ l. sum ++ l) (sym (merged-end (k - n) (drop i xs) (drop j ys) next)) ∙ so_far
+        sym (append-nil sum) ∙ ap (λ l. sum ++ l) (sym (merged-end (k - n) xs ys next)) ∙ so_far
 
     pub merge_full : k ≤ n → sum ≡ all
     merge_full full =
         let none : k - n ≡ 0 = omega arith in
-        sym (append-nil sum)
-        ∙ ap (λ m. sum ++ merged cmp m (drop i xs) (drop j ys)) (sym none) ∙ so_far
+        sym (append-nil sum) ∙ ap (λ m. sum ++ merged cmp m xs ys) (sym none) ∙ so_far
 
 module _ {E : Type 0} (cmp : E → E → Ordering) (order : IsRanking cmp) where
   leads_further : (y a : E) (s : List E) → is_gt (cmp y a) ≡ false → Leads cmp a s → Leads cmp y s

@@ -3,6 +3,7 @@ ghost use Rattle.std.specs.Prelude.{◌≡◌, IfOk};
 
 use crate::entry::{Entry, copied};
 use std::alloc::{AllocError, Global};
+use std::collections::VecDeque;
 use std::marker::Model;
 
 /// The best entries, the best one first, seen as their list.
@@ -34,13 +35,20 @@ impl Best {
     {
         Best { entries }
     }
+
+    /// The entries, to be moved out one by one. Takes no memory.
+    pub(crate) fn into_queue(self) -> VecDeque<Entry>
+        ensures { result.items ≡ self }
+    {
+        VecDeque::from(self.entries)
+    }
 }
 
 /// The list of the same entries once more.
 pub(crate) fn copied_all(alloc: Global, entries: &[Entry]) -> Result<Best, AllocError>
     ensures { IfOk result (λ best. best ≡ entries.now) }
 {
-    let mut copies = Vec::new(alloc);
+    let mut copies = Vec::with_capacity(alloc, entries.len())?;
     'copying: for entry in entries {
         copies.push(copied(alloc, entry)?)?;
     }

@@ -63,8 +63,15 @@ impl Semiring for BestK {
         sum_of(alloc, self.greatest, k, a.entries(), b.entries())
     }
 
+    /// Compares at most k times, and moves at most k entries. No entry is copied.
+    fn sum(&self, alloc: Global, a: Best, b: Best) -> Result<Best, AllocError> {
+        let k = self.k as usize;
+        sum_of(alloc, self.greatest, k, a.into_queue(), b.into_queue())
+    }
+
     /// Compares joined candidates where they stand, and joins only the ones that it keeps, at most k.
-    /// It looks for the places of at most k (2 + ln k) of them, each with 1 + log2 k comparisons at most.
+    /// It looks for the places of at most k * k of them, and of at most k (2 + ln k) where no two are equal,
+    /// each with 1 + log2 k comparisons at most.
     fn mul<L: Ledger>(
         &self,
         alloc: Global,
@@ -82,7 +89,7 @@ impl Semiring for BestK {
 fn single(alloc: Global, entry: Entry) -> Result<Best, AllocError>
     ensures { IfOk result (λ best. best ≡ entry ∷ []) }
 {
-    let mut entries = Vec::new(alloc);
+    let mut entries = Vec::with_capacity(alloc, 1)?;
     entries.push(entry)?;
     Ok(Best::of(entries))
 }

@@ -22,8 +22,10 @@ struct Pick {
 }
 
 /// The first k of all products of two lists, of which the right one is in order.
-/// A row of products ends at the first that is not among the best k so far. So at most k / i products of row i
-/// are kept, counted from 1, and one more is looked at: k (2 + ln k) in all, each placed by halving.
+/// A row of products ends at the first that is not among the best k so far, and each is placed by halving.
+/// Where the left list is in order too and no two products are equal, at most k / i products of row i are kept,
+/// counted from 1, and one more is looked at: at most k (2 + ln k) in all, where k rows or fewer are given.
+/// Equal products may stand beside each other, so that where some are equal all may be placed.
 pub(crate) fn product_of(
     alloc: Global,
     greatest: bool,
@@ -37,7 +39,7 @@ pub(crate) fn product_of(
     ensures { IfOk result (λ best.
         best ≡ first_of (entry_order greatest) k (products joint a.now b.now)) }
 {
-    let mut picks = Vec::new(alloc);
+    let mut picks = Vec::with_capacity(alloc, k.min(a.len().saturating_mul(b.len())))?;
     'rows: for left in 0..a.len() {
         add_row(greatest, k, a, b, &mut picks, left)?;
     }
@@ -148,7 +150,7 @@ fn joints(alloc: Global, a: &[Entry], b: &[Entry], picks: &[Pick]) -> Result<Bes
     requires reaches_add_up { reach_of entry_reach a.now + reach_of entry_reach b.now ≤ weight_bound }
     ensures { IfOk result (λ best. best ≡ map (product_at a.now b.now) picks.now) }
 {
-    let mut entries = Vec::new(alloc);
+    let mut entries = Vec::with_capacity(alloc, picks.len())?;
     'joining: for pick in picks {
         entries.push(joint(alloc, &a[pick.left], &b[pick.right])?)?;
     }

@@ -1,70 +1,60 @@
 //! Sums of best entries. How they take their entries is in specs/Merged.antt.
-ghost use Rattle.std.specs.Prelude.{◌≡◌, ◌<◌, ◌≤◌, ◌++◌, length, drop, IfOk};
+ghost use Rattle.std.specs.Prelude.{◌≡◌, ◌++◌, IfOk};
+ghost use Rattle.std.specs.Option.{option_copied};
 ghost use Rattle.witness_order.specs.Ranked.{first_of, Ascends};
 ghost use Rattle.best_k.specs.Best.{entry_order};
 ghost use Rattle.best_k.specs.Merged.{next_of};
 
 use crate::best::Best;
-use crate::entry::{Entry, comes_after, copied};
+use crate::entry::{Entry, comes_after};
+use crate::queue::Queue;
 use std::alloc::{AllocError, Global};
 
-// Which list the next entry of a sum comes from.
+// Which queue the next entry of a sum comes from.
 enum Source {
     Left,
     Right,
     End,
 }
 
-/// The first k of two lists that are in order. Each entry that it keeps is copied, after one comparison.
-pub(crate) fn sum_of(
+/// The first k of two queues that are in order. Each entry that it keeps is taken after one comparison.
+pub(crate) fn sum_of<Q: Queue>(
     alloc: Global,
     greatest: bool,
     k: usize,
-    a: &[Entry],
-    b: &[Entry],
+    mut a: Q,
+    mut b: Q,
 ) -> Result<Best, AllocError>
-    requires left_in_order { Ascends (entry_order greatest) a.now }
-    requires right_in_order { Ascends (entry_order greatest) b.now }
-    ensures { IfOk result (λ sum. sum ≡ first_of (entry_order greatest) k (a.now ++ b.now)) }
+    requires left_in_order { Ascends (entry_order greatest) (Q.entries a) }
+    requires right_in_order { Ascends (entry_order greatest) (Q.entries b) }
+    ensures { IfOk result (λ sum.
+        sum ≡ first_of (entry_order greatest) k (Q.entries a ++ Q.entries b)) }
 {
-    let mut sum = Vec::new(alloc);
-    let mut left = 0;
-    let mut right = 0;
+    let mut sum = Vec::with_capacity(alloc, k.min(a.count().saturating_add(b.count())))?;
     'merging: while sum.len() < k {
-        match next_source(greatest, a, b, left, right) {
-            Source::Left => {
-                sum.push(copied(alloc, &a[left])?)?;
-                left += 1;
-            }
-            Source::Right => {
-                sum.push(copied(alloc, &b[right])?)?;
-                right += 1;
-            }
+        match next_source(greatest, a.peek(), b.peek()) {
+            Source::Left => sum.push(a.take(alloc)?)?,
+            Source::Right => sum.push(b.take(alloc)?)?,
             Source::End => break,
         }
     }
     Ok(Best::of(sum))
 }
 
-// The list whose entry is next, behind what was taken of each.
-fn next_source(greatest: bool, a: &[Entry], b: &[Entry], left: usize, right: usize) -> Source
-    ensures value { result ≡ next_of (entry_order greatest) (drop left a.now) (drop right b.now) }
-    ensures left_is_within { result ≡ Source.Left → left < length a.now }
-    ensures right_is_within { result ≡ Source.Right → right < length b.now }
+// The queue whose first entry is next.
+fn next_source(greatest: bool, a: Option<&Entry>, b: Option<&Entry>) -> Source
+    ensures { result ≡ next_of (entry_order greatest) (option_copied a.entry) (option_copied b.entry) }
 {
-    if left < a.len() {
-        if right < b.len() {
-            if comes_after(greatest, &a[left], &b[right]) {
+    match (a, b) {
+        (None, None) => Source::End,
+        (Some(_), None) => Source::Left,
+        (None, Some(_)) => Source::Right,
+        (Some(x), Some(y)) => {
+            if comes_after(greatest, x, y) {
                 Source::Right
             } else {
                 Source::Left
             }
-        } else {
-            Source::Left
         }
-    } else if right < b.len() {
-        Source::Right
-    } else {
-        Source::End
     }
 }

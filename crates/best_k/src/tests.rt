@@ -56,7 +56,7 @@ fn sum_of_candidates<L: Ledger>(
     let mut sum = kit.zero(alloc)?;
     'candidates: for marks in candidates {
         let next = candidate(kit, alloc, marks, &mut steps)?;
-        sum = kit.add(alloc, &sum, &next)?;
+        sum = kit.sum(alloc, sum, next)?;
     }
     Ok(sum)
 }

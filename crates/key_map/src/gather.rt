@@ -82,7 +82,7 @@ impl<S: Semiring, M: Monoid> Gather for SparseKit<S, M> {
         let place = key as usize;
         let sum = match row[place].take() {
             None => elem,
-            Some(held) => self.kit.add(alloc, &held, &elem)?,
+            Some(held) => self.kit.sum(alloc, held, elem)?,
         };
         row[place] = Some(sum);
         Ok(())

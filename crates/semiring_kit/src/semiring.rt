@@ -43,6 +43,15 @@ pub trait Semiring: Drop {
         requires right_is_good { IsGood (ring self.now) b.now }
         ensures { IfOk result (λ elem. elem ≡ (ring self.now).add a.now b.now) };
 
+    /// The sum of two values that are needed no more.
+    fn sum(&self, alloc: Global, a: Self::Elem, b: Self::Elem) -> Result<Self::Elem, AllocError>
+        requires left_is_good { IsGood (ring self.now) a }
+        requires right_is_good { IsGood (ring self.now) b }
+        ensures { IfOk result (λ elem. elem ≡ (ring self.now).add a b) }
+    {
+        self.add(alloc, &a, &b)
+    }
+
     /// The product, in this order. It is one step, also where memory is refused.
     fn mul<L: Ledger>(
         &self,

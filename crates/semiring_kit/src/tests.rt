@@ -22,14 +22,14 @@ fn weight(value: Option<i32>) -> Option<i64>
     }
 }
 
-// A copy of the left element, the sum and the product.
+// A copy of the left element, the sum, the sum of copies and the product.
 fn combined<S: Semiring, L: Ledger>(
     kit: &S,
     alloc: Global,
     left: &S::Elem,
     right: &S::Elem,
     blank: Blank,
-) -> Result<(S::Elem, S::Elem, S::Elem), AllocError>
+) -> Result<(S::Elem, S::Elem, S::Elem, S::Elem), AllocError>
     requires left_is_good { IsGood (S.ring kit.now) left.now }
     requires right_is_good { IsGood (S.ring kit.now) right.now }
     requires reaches_add_up { let reach = (S.ring kit.now).reach in
@@ -42,6 +42,7 @@ fn combined<S: Semiring, L: Ledger>(
     Ok((
         kit.copy(alloc, left)?,
         kit.add(alloc, left, right)?,
+        kit.sum(alloc, kit.copy(alloc, left)?, kit.copy(alloc, right)?)?,
         kit.mul(alloc, left, right, &mut steps)?,
     ))
 }
@@ -75,7 +76,7 @@ fn the_greatest_weight(rt: HostRuntime) -> Result<(), Fail> {
         let answers = combined::<MaxPlus, Brand>(&MaxPlus, alloc, &left, &right, Blank::new(1))?;
         assert_eq!(rt;
             answers,
-            (left, weight(sum), weight(product)),
+            (left, weight(sum), weight(sum), weight(product)),
             "at {left:?} and {right:?}"
         );
     }
@@ -97,7 +98,7 @@ fn the_least_weight(rt: HostRuntime) -> Result<(), Fail> {
         let answers = combined::<MinPlus, Brand>(&MinPlus, alloc, &left, &right, Blank::new(1))?;
         assert_eq!(rt;
             answers,
-            (left, weight(sum), weight(product)),
+            (left, weight(sum), weight(sum), weight(product)),
             "at {left:?} and {right:?}"
         );
     }
@@ -121,7 +122,7 @@ fn how_many_there_are(rt: HostRuntime) -> Result<(), Fail> {
     ];
     for (left, right, sum, product) in cases {
         let answers = combined::<Count, Brand>(&Count, alloc, &left, &right, Blank::new(1))?;
-        assert_eq!(rt; answers, (left, sum, product), "at {left} and {right}");
+        assert_eq!(rt; answers, (left, sum, sum, product), "at {left} and {right}");
     }
     Ok(())
 }
@@ -137,7 +138,7 @@ fn whether_there_is_any(rt: HostRuntime) -> Result<(), Fail> {
     ];
     for (left, right, sum, product) in cases {
         let answers = combined::<Truth, Brand>(&Truth, alloc, &left, &right, Blank::new(1))?;
-        assert_eq!(rt; answers, (left, sum, product), "at {left} and {right}");
+        assert_eq!(rt; answers, (left, sum, sum, product), "at {left} and {right}");
     }
     Ok(())
 }

@@ -69,7 +69,9 @@ pub fn shortlex_joined(a: &Witness, b: &Witness, c: &Witness, d: &Witness) -> Or
 pub fn joined(alloc: Global, a: &Witness, b: &Witness) -> Result<Witness, AllocError>
     ensures { IfOk result (λ witness. witness ≡ a.now ++ b.now) }
 {
-    let mut marks = SmallVec::from_slice(alloc, a.marks())?;
-    marks.extend_from_slice(b.marks())?;
+    let (a, b) = (a.marks(), b.marks());
+    let mut marks = SmallVec::with_capacity(alloc, a.len() + b.len())?;
+    marks.extend_from_slice(a)?;
+    marks.extend_from_slice(b)?;
     Ok(Witness { marks })
 }

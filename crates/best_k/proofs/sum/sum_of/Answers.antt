@@ -7,42 +7,45 @@ use Rattle.best_k.proofs.Merges.{merge_left, merge_right, merge_end, merge_full,
 use Rattle.best_k.proofs.sum.sum_of.Goals as goal
 use Rattle.best_k.proofs.sum.sum_of.Goals.{else-merging-test, then-merging-test+in-End}
 
-pub merging-preserved-in-Left : goal.merging-preserved-in-Left
-merging-preserved-in-Left c = record {
-  left_within = omega arith;
-  right_within = omega arith;
-  few = omega arith;
-  so_far =
-      rw (c.in_ok-push-in-Left.ensures.items, c.in_ok-push-in-Left.ensures.len, c.in_ok-copied-in-Left.ensures)
-      (merge_left (entry_order c.args.greatest) c.args.k c.merging.sum.len c.merging.sum.items c.args.a.now c.args.b.now _
-      c.merging.left c.merging.right c.merging.invariant.so_far c.index-a-left.result (omega arith) (omega arith)
-      c.index-a-left.is (sym c.in-Left.ensures.value));
-}
+pub merging-preserved-in_ok-push-in-Left : goal.merging-preserved-in_ok-push-in-Left
+merging-preserved-in_ok-push-in-Left g c =
+    let entries = g.Q.Queue.entries in
+    record {
+      few = omega arith;
+      so_far =
+          rw (c.in_ok-push-in-Left.ensures.items, c.in_ok-push-in-Left.ensures.len)
+          (merge_left (entry_order c.args.greatest) c.args.k c.merging.sum.len c.merging.sum.items
+          (entries c.merging.a) (entries c.merging.b) _ c.merging.invariant.so_far _ _ (omega arith)
+          c.in_ok-take-in-Left.ensures (rw (sym c.peek.ensures, sym c.peek-in-merging.ensures) (sym c.in-Left.ensures)));
+    }
 
 pub merging-preserved : goal.merging-preserved
-merging-preserved c = record {
-  left_within = omega arith;
-  right_within = omega arith;
-  few = omega arith;
-  so_far =
-      rw (c.in_ok-push-in-Right.ensures.items, c.in_ok-push-in-Right.ensures.len, c.in_ok-copied-in-Right.ensures)
-      (merge_right (entry_order c.args.greatest) c.args.k c.merging.sum.len c.merging.sum.items c.args.a.now c.args.b.now _
-      c.merging.left c.merging.right c.merging.invariant.so_far c.index-b-right.result (omega arith) (omega arith)
-      c.index-b-right.is (sym c.in-Right.ensures.value));
-}
+merging-preserved g c =
+    let entries = g.Q.Queue.entries in
+    record {
+      few = omega arith;
+      so_far =
+          rw (c.in_ok-push-in-Right.ensures.items, c.in_ok-push-in-Right.ensures.len)
+          (merge_right (entry_order c.args.greatest) c.args.k c.merging.sum.len c.merging.sum.items
+          (entries c.merging.a) (entries c.merging.b) _ c.merging.invariant.so_far _ _ (omega arith)
+          c.in_ok-take-in-Right.ensures (rw (sym c.peek.ensures, sym c.peek-in-merging.ensures) (sym c.in-Right.ensures)));
+    }
 
 pub returns : goal.returns
-returns c =
+returns g c =
+    let entries = g.Q.Queue.entries in
     c.of.ensures
-    ∙ let all : c.merging.sum.items ≡ merged (entry_order c.args.greatest) c.args.k c.args.a.now c.args.b.now =
+    ∙ let all : c.merging.sum.items
+    ≡ merged (entry_order c.args.greatest) c.args.k (entries c.args.a) (entries c.args.b) =
     elim c.merging-test.branch [
       | else-merging-test w ↦
-          merge_full (entry_order c.args.greatest) c.args.k c.merging.sum.len c.merging.sum.items c.args.a.now c.args.b.now _
-          c.merging.left c.merging.right c.merging.invariant.so_far (omega (arith, w.merging-test.false))
+          merge_full (entry_order c.args.greatest) c.args.k c.merging.sum.len c.merging.sum.items
+          (entries c.merging.a) (entries c.merging.b) _ c.merging.invariant.so_far (omega (arith, w.merging-test.false))
       | then-merging-test+in-End w ↦
-          merge_end (entry_order c.args.greatest) c.args.k c.merging.sum.len c.merging.sum.items c.args.a.now c.args.b.now _
-          c.merging.left c.merging.right c.merging.invariant.so_far (sym w.in-End.ensures.value)
+          merge_end (entry_order c.args.greatest) c.args.k c.merging.sum.len c.merging.sum.items
+          (entries c.merging.a) (entries c.merging.b) _ c.merging.invariant.so_far
+          (rw (sym w.peek.ensures, sym w.peek-in-merging.ensures) (sym w.in-End.ensures))
     ] in
     all
-    ∙ merged-first_of (entry_order c.args.greatest) (entry_order-IsRanking c.args.greatest) c.args.k c.args.a.now c.args.b.now
-    c.requires.left_in_order c.requires.right_in_order
+    ∙ merged-first_of (entry_order c.args.greatest) (entry_order-IsRanking c.args.greatest) c.args.k
+    (entries c.args.a) (entries c.args.b) c.requires.left_in_order c.requires.right_in_order
