@@ -14,14 +14,14 @@ ghost use Rattle.gta_job.specs.Jobs.{job_refusal, list_refusal, refusal_of_list,
 ghost use Rattle.gta_job.specs.Jobs.{refusal_of_values, text_of, text_of_list};
 
 use crate::job::{JobEnd, bytes_from, checked_spec};
-use crate::rows_job::{check_weights, prepared_tests};
+use crate::rows_job::{check_weights, negative_refusal};
 use gta_checked::{Checked, Rows};
 use gta_meaning::{Candidate, ListFault, list_kept};
 use gta_rows::read_rows;
-use gta_spec::ROW_LIMIT;
 use gta_text::Name;
 use report_text::{Refusal, push_candidate_line};
 use std::alloc::{AllocError, Global};
+use test_homs::first_negative;
 
 /// The most candidates that may be generated where those kept are listed.
 pub const CANDIDATE_LIMIT: u64 = 65536;
@@ -56,7 +56,6 @@ fn list_table(alloc: Global, checked: &Checked, table: &[u8]) -> Result<Vec<u8>,
 /// The list over rows, or their refusal.
 fn list_rows(alloc: Global, checked: &Checked, rows: &Rows) -> Result<Vec<u8>, JobEnd>
     requires columns { HasColumnsOf checked.now (plain_rows rows.now) }
-    requires few { rows.now.count ≤ ROW_LIMIT }
     ensures accepted { OnOk result (refusal_of_listed_rows checked.now (plain_rows rows.now) ≡ None) }
     ensures text { IfOk result (λ text.
         text.items ≡ list_text checked.now.labels (kept checked.now (plain_rows rows.now))) }
@@ -71,12 +70,13 @@ fn list_rows(alloc: Global, checked: &Checked, rows: &Rows) -> Result<Vec<u8>, J
 /// Refuses the first negative value of a test that compares sums.
 fn check_values(alloc: Global, checked: &Checked, rows: &Rows) -> Result<(), JobEnd>
     requires columns { HasColumnsOf checked.now (plain_rows rows.now) }
-    requires few { rows.now.count ≤ ROW_LIMIT }
     ensures accepted { OnOk result (refusal_of_values checked.now (plain_rows rows.now) ≡ None) }
     ensures refused { IfErr result (IsEndOf (refusal_of_values checked.now (plain_rows rows.now))) }
 {
-    let _ = prepared_tests(alloc, checked, rows)?;
-    Ok(())
+    match first_negative(checked, rows) {
+        Some(negative) => Err(JobEnd::Refused(negative_refusal(alloc, checked, negative)?)),
+        None => Ok(()),
+    }
 }
 
 /// The candidates that pass, or the refusal of too many that are generated.

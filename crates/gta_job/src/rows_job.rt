@@ -11,7 +11,8 @@ ghost use Rattle.test_homs.specs.Homs.{ArePrepared};
 ghost use Rattle.fuse_answer.specs.Crews.{IsCrew};
 ghost use Rattle.gta_job.specs.Answers as answers;
 ghost use Rattle.gta_job.specs.Ends.{IsEndOf};
-ghost use Rattle.gta_job.specs.Jobs.{refusal_of_job, refusal_of_rows, refusal_of_values, text_of_job};
+ghost use Rattle.gta_job.specs.Jobs.{negative_of, refusal_of_job, refusal_of_rows, refusal_of_values};
+ghost use Rattle.gta_job.specs.Jobs.{text_of_job};
 ghost use Rattle.gta_job.specs.Prepared.{IsPrepared};
 
 use crate::job::JobEnd;
@@ -26,7 +27,7 @@ use monoid_kit::Monoid;
 use report_text::{Answer, Refusal, report};
 use std::alloc::{AllocError, Global};
 use std::thread::Threads;
-use test_homs::{Tests, ValueFault, prepare_tests};
+use test_homs::{Negative, Tests, ValueFault, prepare_tests};
 use worker_pool::Gate;
 
 /// What the tests of a job become.
@@ -85,7 +86,7 @@ fn rows_job<R: Threads + Sync, G: Gate + Sync>(
 }
 
 /// The tests as letters and keys, or how many keys too many there are, or the refusal of the first negative value.
-pub(crate) fn prepared_tests(
+fn prepared_tests(
     alloc: Global,
     checked: &Checked,
     rows: &Rows,
@@ -106,17 +107,33 @@ pub(crate) fn prepared_tests(
                 value,
             },
         ) => {
-            let label = label_name(alloc, checked, label)?;
-            Err(JobEnd::Refused(Refusal::Negative {
+            let negative = Negative {
                 test,
                 row,
                 label,
                 value,
-            }))
+            };
+            Err(JobEnd::Refused(negative_refusal(alloc, checked, negative)?))
         }
         Err(ValueFault::TooManyKeys { keys }) => Ok(Prepared::TooManyKeys(keys)),
         Err(ValueFault::Memory) => Err(JobEnd::Memory),
     }
+}
+
+/// The refusal of a negative value, with its label's name where labels are declared.
+pub(crate) fn negative_refusal(
+    alloc: Global,
+    checked: &Checked,
+    negative: Negative,
+) -> Result<Refusal, AllocError>
+    ensures { IfOk result (λ refusal. refusal ≡ negative_of checked.now negative) }
+{
+    Ok(Refusal::Negative {
+        test: negative.test,
+        row: negative.row,
+        label: label_name(alloc, checked, negative.label)?,
+        value: negative.value,
+    })
 }
 
 /// Refuses rows whose weights add up past the bound.

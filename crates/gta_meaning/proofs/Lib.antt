@@ -9,3 +9,4 @@ pub mod InRange
 pub mod Generated
 pub mod Products
 pub mod ByNumber
+pub mod Accepted

@@ -2,6 +2,7 @@ pub mod Values
 pub mod InRange
 pub mod Folds
 pub mod Tests
+pub mod Elements
 pub mod Kept
 pub mod Listed
 pub mod Answers

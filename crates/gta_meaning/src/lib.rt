@@ -1,10 +1,12 @@
 //! The plain meaning of a checked specification and its table, by lists and exact whole numbers.
 //! specs/Values.antt has values and totals, specs/Tests.antt what passes, specs/Folds.antt the product of a fold,
-//! specs/Kept.antt the candidates that pass, specs/Answers.antt what is asked of them, specs/Listed.antt which
-//! lists are too long, and specs/Heavy.antt the first row past the bound of weights.
+//! specs/Elements.antt what sets of accepted elements hold, specs/Kept.antt the candidates that pass,
+//! specs/Answers.antt what is asked of them, specs/Listed.antt which lists are too long, and specs/Heavy.antt the
+//! first row past the bound of weights.
 #![tactic(auto)]
 
 mod candidate;
+mod elements;
 mod folds;
 mod heavy;
 mod listing;
@@ -14,6 +16,7 @@ mod totals;
 mod values;
 
 pub use candidate::{Candidate, label_count};
+pub use elements::{ElementSet, accepted_elements};
 pub use folds::picked;
 pub use heavy::{first_heavy, goal_measure};
 pub use listing::{ListFault, list_kept};

@@ -9,8 +9,9 @@ ghost use Rattle.gta_meaning.specs.Kept.{kept};
 ghost use Rattle.gta_meaning.specs.Listed.{is_too_many, marks_of};
 
 use crate::candidate::{Candidate, label_count};
+use crate::elements::accepted_elements;
 use crate::numbered::candidate_at;
-use crate::passing::passes;
+use crate::passing::passes_by;
 use gta_checked::{Checked, Rows};
 use shape_gen::sizes;
 use std::alloc::{AllocError, AllocFailed, Global};
@@ -63,10 +64,12 @@ pub fn list_kept(
     if extent.candidates > most || extent.marks > most_marks {
         return Err(ListFault::TooMany);
     }
+    // Made once, since lists of accepted elements may be long, and candidates many.
+    let accepted = accepted_elements(alloc, checked)?;
     let mut list = Vec::new(alloc);
     for number in 0..extent.candidates {
         let candidate = candidate_at(alloc, shape, rows.count, labels, extent.candidates, number)?;
-        if passes(checked, rows, &candidate) {
+        if passes_by(checked, rows, &accepted, &candidate) {
             list.push(candidate)?;
         }
     }

@@ -6,10 +6,12 @@ ghost use Rattle.gta_checked.specs.Tables.{table_at};
 ghost use Rattle.gta_checked.specs.Within.{IsCheckWithin, IsPickWithin, IsTestWithin, table_size};
 ghost use Rattle.gta_checked.specs.PlainRows.{plain_rows};
 ghost use Rattle.gta_meaning.specs.InRange.{HasColumnsOf, IsInRangeOf};
+ghost use Rattle.gta_meaning.specs.Elements.{AreAccepted, IsAccepted};
 ghost use Rattle.gta_meaning.specs.Folds.{folded};
 ghost use Rattle.gta_meaning.specs.Tests as tests;
 
 use crate::candidate::Candidate;
+use crate::elements::ElementSet;
 use crate::folds::folded;
 use crate::totals::weight_of;
 use crate::values::compares;
@@ -48,6 +50,50 @@ fn passes_test(checked: &Checked, rows: &Rows, candidate: &Candidate, test: &Tes
             picks,
             accept,
         } => accept.contains(&fold_product(checked, rows, candidate, *table, picks)),
+    }
+}
+
+/// The same where what each test accepts is known as a set, so that no list of elements is looked through.
+pub(crate) fn passes_by(
+    checked: &Checked,
+    rows: &Rows,
+    accepted: &[ElementSet],
+    candidate: &Candidate,
+) -> bool
+    requires columns { HasColumnsOf checked.now (plain_rows rows.now) }
+    requires accepted { AreAccepted checked.now.tests accepted.now }
+    requires in_range { IsInRangeOf checked.now (plain_rows rows.now) candidate.now.marks.items }
+    ensures { result ≡ tests.passes checked.now (plain_rows rows.now) candidate.now.marks.items }
+{
+    let tests = checked.tests();
+    for k in 0..tests.len() {
+        if !passes_test_by(checked, rows, &accepted[k], candidate, &tests[k]) {
+            return false;
+        }
+    }
+    true
+}
+
+fn passes_test_by(
+    checked: &Checked,
+    rows: &Rows,
+    accepted: &ElementSet,
+    candidate: &Candidate,
+    test: &Test,
+) -> bool
+    requires columns { HasColumnsOf checked.now (plain_rows rows.now) }
+    requires accepted { IsAccepted (plain_test test.now) accepted.now }
+    requires in_range { IsInRangeOf checked.now (plain_rows rows.now) candidate.now.marks.items }
+    requires within { IsTestWithin (length checked.now.columns) (length checked.now.labels)
+        (length checked.now.measures) checked.now.tables (plain_test test.now) }
+    ensures { result
+        ≡ tests.passes_test checked.now (plain_rows rows.now) candidate.now.marks.items (plain_test test.now) }
+{
+    match test {
+        Test::Fold { table, picks, .. } => {
+            accepted.contains(fold_product(checked, rows, candidate, *table, picks))
+        }
+        _ => passes_test(checked, rows, candidate, test),
     }
 }
 

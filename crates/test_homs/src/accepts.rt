@@ -3,6 +3,7 @@
 ghost use Rattle.std.specs.Prelude.{◌≡◌, ◌≤◌, ◌<◌, length, map, IfOk};
 ghost use Rattle.gta_checked.specs.Plain.{plain_test};
 ghost use Rattle.gta_checked.specs.Within.{IsCheckWithin, IsTestWithin};
+ghost use Rattle.gta_meaning.specs.Elements.{AreAccepted, IsAccepted};
 ghost use Rattle.gta_meaning.specs.Values as values;
 ghost use Rattle.monoid_product.specs.Product.{key_count};
 ghost use Rattle.monoid_product.specs.ProductOf.{plain_parts};
@@ -10,6 +11,7 @@ ghost use Rattle.test_homs.specs.Components.{test_parts};
 ghost use Rattle.test_homs.specs.Letters as letters;
 
 use gta_checked::{Checked, Test};
+use gta_meaning::{ElementSet, accepted_elements};
 use gta_spec::{Check, Cmp};
 use monoid_kit::Monoid;
 use monoid_product::Product;
@@ -24,34 +26,37 @@ pub(crate) fn accepted_keys(
     requires product { plain_parts product.now ≡ test_parts checked.now }
     ensures { IfOk result (λ accept. accept.items ≡ letters.accepted_keys checked.now) }
 {
+    let sets = accepted_elements(alloc, checked)?;
     let mut accept = Vec::with_capacity(alloc, product.size() as usize)?;
     for key in 0..product.size() {
-        accept.push(key_accepted(checked, product, key))?;
+        accept.push(key_accepted(checked, &sets, product, key))?;
     }
     Ok(accept)
 }
 
-fn key_accepted(checked: &Checked, product: &Product, key: u32) -> bool
+fn key_accepted(checked: &Checked, sets: &[ElementSet], product: &Product, key: u32) -> bool
+    requires sets { AreAccepted checked.now.tests sets.now }
     requires product { plain_parts product.now ≡ test_parts checked.now }
     requires is_key { key < key_count (plain_parts product.now) }
     ensures { result ≡ letters.key_accepted checked.now key }
 {
     let tests = checked.tests();
     for k in 0..tests.len() {
-        if !test_accepts(&tests[k], product.digit(key, k as u32)) {
+        if !test_accepts(&tests[k], &sets[k], product.digit(key, k as u32)) {
             return false;
         }
     }
     true
 }
 
-fn test_accepts(test: &Test, digit: u32) -> bool
+fn test_accepts(test: &Test, accepted: &ElementSet, digit: u32) -> bool
+    requires accepted { IsAccepted (plain_test test.now) accepted.now }
     ensures { result ≡ letters.test_accepts (plain_test test.now) digit }
 {
     match test {
         Test::Sum { check, .. } => check_accepts(*check, digit),
         Test::Length { check } => check_accepts(*check, digit),
-        Test::Fold { accept, .. } => accept.contains(&digit),
+        Test::Fold { .. } => accepted.contains(digit),
     }
 }
 

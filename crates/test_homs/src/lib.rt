@@ -10,7 +10,7 @@ mod letters;
 mod negatives;
 mod tests_of;
 
-pub use negatives::Negative;
+pub use negatives::{Negative, first_negative};
 pub use tests_of::{Tests, ValueFault, prepare_tests};
 
 #[cfg(test)]

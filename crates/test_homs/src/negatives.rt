@@ -11,8 +11,8 @@ use gta_checked::{Checked, Rows, Test};
 use gta_meaning::{label_count, value_of};
 use gta_spec::Check;
 
-/// A test's number, a row, a label, and the value there.
-#[derive(Clone, Copy)]
+/// A test, a row and a label, all counted from 0, and the value there.
+#[derive(Clone, Copy, PartialEq, Eq, Debug)]
 pub struct Negative {
     pub test: u32,
     pub row: u32,
@@ -20,8 +20,9 @@ pub struct Negative {
     pub value: i128,
 }
 
-/// The first negative value of a compared sum, by test, row and label. It takes no memory.
-pub(crate) fn first_negative(checked: &Checked, rows: &Rows) -> Option<Negative>
+/// The first negative value of a compared sum, by test, row and label; None where no such value is negative.
+/// It takes no memory.
+pub fn first_negative(checked: &Checked, rows: &Rows) -> Option<Negative>
     requires columns { HasColumnsOf checked.now (plain_rows rows.now) }
     ensures first { result ≡ negatives.first_negative checked.now (plain_rows rows.now) }
     ensures within { IsWithinLimits checked.now }

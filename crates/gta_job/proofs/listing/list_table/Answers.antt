@@ -5,7 +5,7 @@ use Rattle.gta_meaning.specs.Kept.{kept}
 use Rattle.gta_job.specs.Ends.{IsEndOf, end_of_table}
 use Rattle.gta_job.specs.Jobs.{refusal_of_list, refusal_of_listed_rows, text_of_list}
 use Rattle.gta_job.proofs.Listed.{by_table, table-IsEndOf}
-use Rattle.gta_job.proofs.Records.{table-few, table-rows}
+use Rattle.gta_job.proofs.Records.{table-rows}
 use Rattle.gta_job.proofs.listing.list_table.Goals as goal
 use Rattle.gta_job.proofs.listing.list_table.Goals.{After-drop-rows}
 
@@ -14,10 +14,6 @@ returns-in_err-rows-clause-refused c =
     let is : IsEndOf (refusal_of_list c.args.checked.now c.args.table.now) (end_of_table c.in_err-rows.field-0.0) =
     table-IsEndOf c.args.checked.now c.args.table.now c.in_err-rows.field-0.0 c.in_err-rows.ensures.refused in
     search rules
-
-pub list_rows-requires-clause-few : goal.list_rows-requires-clause-few
-list_rows-requires-clause-few c =
-    table-few c.args.checked.now.columns c.args.table.now c.in_ok-rows.rows c.in_ok-rows.ensures.table c.in_ok-rows.ensures.accepted
 
 refusal-is : (c : After-drop-rows)
     → refusal_of_listed_rows c.args.checked.now (plain_rows c.in_ok-rows.rows)

@@ -10,10 +10,10 @@ use Rattle.gta_meaning.specs.declared.candidate.Candidate.{Candidate}
 use Rattle.gta_meaning.proofs.Generated.{generated-IsInRangeOf}
 use Rattle.gta_meaning.proofs.ByNumber.{filter-kept, filter-dropped}
 use Rattle.gta_meaning.proofs.listing.list_kept.Goals as goal
-use Rattle.gta_meaning.proofs.listing.list_kept.Goals.{then-passes+in_ok-push, else-passes}
+use Rattle.gta_meaning.proofs.listing.list_kept.Goals.{then-passes_by+in_ok-push, else-passes_by}
 
-pub passes-requires-clause-in_range : goal.passes-requires-clause-in_range
-passes-requires-clause-in_range c =
+pub passes_by-requires-clause-in_range : goal.passes_by-requires-clause-in_range
+passes_by-requires-clause-in_range c =
     let checked = c.args.checked.now in
     let rows = plain_rows c.args.rows.now in
     let whole = rw (c.shape-shape.ensures.shape, c.label_count-labels.ensures) at c.sizes-extent.ensures.candidates in
@@ -32,16 +32,16 @@ loop-number-preserved c =
     let below : i < length all = omega (arith, whole, c.loop-number-test.true) in
     let same : c.in_ok-candidate.candidate.marks.items ≡ get_or all i [] =
     rw (c.shape-shape.ensures.shape, c.label_count-labels.ensures) at c.in_ok-candidate.ensures in
-    let answer = c.passes.ensures ∙ ap (passes checked rows) same in
-    elim c.if-passes.branch [
-      | then-passes+in_ok-push w ↦
+    let answer = c.passes_by.ensures ∙ ap (passes checked rows) same in
+    elim c.if-passes_by.branch [
+      | then-passes_by+in_ok-push w ↦
           rw (w.list-is, w.in_ok-push.ensures.items)
           (map-append (λ (x : Candidate). x.marks.items) c.loop-number.list.items (c.in_ok-candidate.candidate ∷ [])
           ∙ ap (λ (ms : List (List Mark)). ms ++ c.in_ok-candidate.candidate.marks.items ∷ []) c.loop-number.invariant
           ∙ ap (λ (m : List Mark). filter (passes checked rows) (take i all) ++ m ∷ []) same
-          ∙ sym (filter-kept (passes checked rows) all i [] below (sym answer ∙ w.if-passes.true)))
-      | else-passes w ↦
+          ∙ sym (filter-kept (passes checked rows) all i [] below (sym answer ∙ w.if-passes_by.true)))
+      | else-passes_by w ↦
           rw w.list-is
           (c.loop-number.invariant
-          ∙ sym (filter-dropped (passes checked rows) all i [] below (sym answer ∙ w.if-passes.false)))
+          ∙ sym (filter-dropped (passes checked rows) all i [] below (sym answer ∙ w.if-passes_by.false)))
     ]

@@ -1,11 +1,21 @@
 use Rattle.std.proofs.Common.{◌≡◌, ◌<◌, length, get_or, false, sym, ap, ◌∙◌, arith}
 use Rattle.gta_checked.specs.Plain.{plain_test}
 use Rattle.gta_checked.specs.declared.resolved.Test.{Test}
+use Rattle.gta_meaning.proofs.Accepted.{accepted-at}
 use Rattle.monoid_product.specs.Product.{digits}
 use Rattle.test_homs.specs.Components.{test_parts}
 use Rattle.test_homs.specs.Letters.{all_accept, test_accepts}
 use Rattle.test_homs.proofs.Preparations.{all_accept-all, all_accept-fails, length-key_digits}
 use Rattle.test_homs.proofs.accepts.key_accepted.Goals as goal
+
+pub test_accepts-requires : goal.test_accepts-requires
+test_accepts-requires c =
+    let in_range : c.loop-k.k < length c.tests-tests.result.now.items =
+    omega (arith, c.loop-k-test.true, c.len-k-end.ensures, c.tests-tests.result.now.ok) in
+    record {
+      accepted = accepted-at c.tests-tests.result.now.items c.args.checked.now.tests c.tests-tests.ensures.tests c.args.sets.now
+          c.requires.sets c.loop-k.k c.index.result.now c.index-sets-k.result in_range c.index.ensures c.index-sets-k.is;
+    }
 
 pub returns-then-not-test_accepts : goal.returns-then-not-test_accepts
 returns-then-not-test_accepts c =
