@@ -86,11 +86,7 @@ fn rows_job<R: Threads + Sync, G: Gate + Sync>(
 }
 
 /// The tests as letters and keys, or how many keys too many there are, or the refusal of the first negative value.
-fn prepared_tests(
-    alloc: Global,
-    checked: &Checked,
-    rows: &Rows,
-) -> Result<Prepared, JobEnd>
+fn prepared_tests(alloc: Global, checked: &Checked, rows: &Rows) -> Result<Prepared, JobEnd>
     requires columns { HasColumnsOf checked.now (plain_rows rows.now) }
     requires few { rows.now.count ≤ ROW_LIMIT }
     ensures accepted { OnOk result (refusal_of_values checked.now (plain_rows rows.now) ≡ None) }
