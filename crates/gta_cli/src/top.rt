@@ -145,7 +145,8 @@ pub fn gta_main<R: Threads + Sync, S: Source, O: Sink, E: Sink>(
 /// Says that memory was wanting, and gives the status of it. It takes no memory.
 pub(crate) fn out_of_memory<E: Sink>(err: &mut E) -> u8
     ensures status { result ≡ NO_MEMORY }
-    ensures said { Says (E.gone err.old) (E.gone err.new) out_of_memory_line (Rose (E.faults err.old) (E.faults err.new)) }
+    ensures said { Says (E.gone err.old) (E.gone err.new) out_of_memory_line
+        (Rose (E.faults err.old) (E.faults err.new)) }
     ensures counts { E.faults err.old ≤ E.faults err.new }
 {
     say(err, OUT_OF_MEMORY_LINE);
