@@ -108,19 +108,6 @@ fn reserved_words_are_no_names(rt: HostRuntime) {
     }
 }
 
-#[test]
-fn first_lines(rt: HostRuntime) {
-    let cases: [(&[u8], Option<(&[u8], &[u8])>); 4] = [
-        (b"", None),
-        (b"one", None),
-        (b"\n", Some((b"", b""))),
-        (b"one\ntwo\n", Some((b"one", b"two\n"))),
-    ];
-    for (bytes, parts) in cases {
-        assert!(rt; first_line(bytes) == parts, "at {bytes:?}");
-    }
-}
-
 /// The answer of `lines_of` in letters: each line's number and its tokens' kinds, then the rest.
 fn kinds(alloc: Global, bytes: &[u8]) -> Result<String, Fail> {
     let mut out = String::new(alloc);
