@@ -14,6 +14,3 @@ pub use drilling::drill_job;
 pub use job::{INPUT_LIMIT, JobEnd, answer_job, answer_with, show_job};
 pub use listing::{CANDIDATE_LIMIT, MARK_LIMIT, list_job};
 pub use size::SIZE_LIMIT;
-
-#[cfg(test)]
-mod tests;

@@ -18,6 +18,3 @@ mod uses;
 
 pub use checking::check;
 pub use fault::CheckFault;
-
-#[cfg(test)]
-mod tests;

@@ -10,8 +10,6 @@ mod merge;
 mod row;
 mod slot;
 mod sparse_kit;
-#[cfg(test)]
-mod tests;
 
 pub use map_kit::MapKit;
 pub use slot::Slot;

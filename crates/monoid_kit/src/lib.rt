@@ -8,8 +8,6 @@ mod checks;
 mod modular;
 mod monoid;
 mod table;
-#[cfg(test)]
-mod tests;
 
 pub use capped_sum::{CappedSum, GREATEST_BOUND};
 pub use checks::{TableFault, check_table};
