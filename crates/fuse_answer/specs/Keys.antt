@@ -10,7 +10,7 @@ use Rattle.gta_checked.specs.Plain.{PlainChecked}
 use Rattle.gta_meaning.specs.InRange.{IsInRangeOf, label_count}
 use Rattle.gta_meaning.specs.Tests.{passes}
 
--- the product of the keys of a candidate's marks, left to right
+-- the product of the keys of a candidate's marks, in their order
 abbrev pub product_of_keys : ℕ → (ℕ → ℕ → ℕ) → List ℕ → ℕ → List Mark → ℕ
 product_of_keys unit times keys labels c =
     product_by unit times (λ m. slice_index_or keys (place_of labels m) 0) c

@@ -24,11 +24,11 @@ elem_at one (letter ∷ letters) (suc place) = elem_at one letters place
 abbrev pub place_of : ℕ → Mark → ℕ
 place_of labels m = m.row * labels + m.label
 
--- the key of a candidate: the product of the keys of its marks' letters, left to right
+-- the key of a candidate: the product of the keys of its marks' letters, in their order
 abbrev pub key_of : {E : Type 0} → ℕ → (ℕ → ℕ → ℕ) → ℕ → List (Letter E) → List Mark → ℕ
 key_of unit times labels letters c = product_by unit times (λ m. key_at unit letters (place_of labels m)) c
 
--- the weight of a candidate: the product of the values of its marks' letters, left to right
+-- the weight of a candidate: the product of the values of its marks' letters, in their order
 abbrev pub weight_of : {E : Type 0} → SemiringOn E → ℕ → List (Letter E) → List Mark → E
 weight_of r labels letters c = product_by r.one r.mul (λ m. elem_at r.one letters (place_of labels m)) c
 

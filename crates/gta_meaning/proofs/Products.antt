@@ -1,9 +1,10 @@
 -- Picked elements, and the product of one mark more.
-use Rattle.std.proofs.Common.{◌≡◌, ℕ, suc, ◌+◌, ◌<◌, Bool, true, false, List, [], ◌∷◌, take, length, get_or, All, refl, ap, ◌∙◌, inl, arith}
-use Rattle.std.proofs.lemmas.List.{take_more}
+use Rattle.std.proofs.Common.{◌≡◌, ℕ, suc, ◌+◌, ◌<◌, Bool, true, false, List, [], ◌∷◌, take, length, get_or, All, refl, sym, subst, arith}
+use Rattle.std.proofs.lemmas.List.Sums.{fold_more}
 use Rattle.monoid_kit.specs.Items.{AllElements}
+use Rattle.monoid_kit.specs.Product.{product_by}
 use Rattle.monoid_kit.specs.Table.{PlainTable, IsLawfulTable, table_mul}
-use Rattle.monoid_kit.proofs.Products.{product_by-append, product_by-is_element}
+use Rattle.monoid_kit.proofs.Products.{product_from_left-product_by, product_by-is_element}
 use Rattle.shape_gen.specs.declared.mark.Mark.{Mark}
 use Rattle.gta_checked.specs.PlainRows.{PlainRows}
 use Rattle.gta_checked.specs.Plain.{PlainPick}
@@ -27,25 +28,28 @@ picked-is_element rows columns labels size unit row label (pick ∷ picks) unit_
 
 module _ (rows : PlainRows) (columns labels : ℕ) (table : PlainTable) (lawful : IsLawfulTable table)
     (picks : List PlainPick) (within : All (IsPickWithin columns labels table.size) picks) where
-  element : Mark → ℕ
+  abbrev pub element : Mark → ℕ
   element mark = picked rows table.unit picks mark.row mark.label
 
-  elements : (marks : List Mark) → AllElements (λ a. a < table.size) (λ (mark : Mark). picked rows table.unit picks mark.row mark.label) marks
+  elements : (marks : List Mark) → AllElements (λ a. a < table.size) element marks
   elements marks mark is_in =
       picked-is_element rows columns labels table.size table.unit mark.row mark.label picks
       lawful.table.unit_is_element within
 
-  pub folded-is_element : (marks : List Mark) → folded rows table picks marks < table.size
-  folded-is_element marks = product_by-is_element lawful.monoid _ marks (elements marks)
+  pub folded-product_by : (marks : List Mark)
+      → folded rows table picks marks ≡ product_by table.unit (table_mul table) element marks
+  folded-product_by marks = product_from_left-product_by lawful.monoid element marks (elements marks)
 
-  pub folded-more : (marks : List Mark) (i : ℕ) (d : Mark) → i < length marks
-      → folded rows table picks (take (i + 1) marks)
-      ≡ table_mul table (folded rows table picks (take i marks))
-      (picked rows table.unit picks (get_or marks i d).row (get_or marks i d).label)
-  folded-more marks i d below =
-      let mark = get_or marks i d in
-      let element = picked rows table.unit picks mark.row mark.label in
-      let in_table = elements (mark ∷ []) mark (inl refl) in
-      ap (folded rows table picks) (take_more marks i d below)
-      ∙ product_by-append lawful.monoid _ (take i marks) (mark ∷ []) (elements (take i marks)) (elements (mark ∷ []))
-      ∙ ap (table_mul table (folded rows table picks (take i marks))) (lawful.monoid.right_identity element in_table)
+  pub folded-is_element : (marks : List Mark) → folded rows table picks marks < table.size
+  folded-is_element marks =
+      subst (λ a. a < table.size) (sym (folded-product_by marks))
+      (product_by-is_element lawful.monoid element marks (elements marks))
+
+pub folded-more : (rows : PlainRows) (table : PlainTable) (picks : List PlainPick) (marks : List Mark) (i : ℕ) (d : Mark)
+    → i < length marks
+    → folded rows table picks (take (i + 1) marks)
+    ≡ table_mul table (folded rows table picks (take i marks))
+    (picked rows table.unit picks (get_or marks i d).row (get_or marks i d).label)
+folded-more rows table picks marks i d below =
+    fold_more (λ product mark. table_mul table product (picked rows table.unit picks mark.row mark.label)) table.unit
+    marks i d below

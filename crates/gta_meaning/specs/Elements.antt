@@ -1,5 +1,5 @@
 -- Sets of elements as a flag for each element of a table, and which the tests accept.
-use Rattle.std.specs.Prelude.{◌≡◌, ℕ, ◌<◌, Bool, false, ◌==◌, List, length, slice_index_or}
+use Rattle.std.specs.Prelude.{◌≡◌, ℕ, ◌<◌, Bool, false, ◌==◌, List, [], length, slice_index_or}
 use Rattle.std.specs.List.{list_any}
 use Rattle.gta_checked.specs.Plain.{PlainTest, Sum, Length, Fold}
 
@@ -11,10 +11,10 @@ is_in set element = slice_index_or set element false
 abbrev pub HasElements : List ℕ → List Bool → Type 0
 HasElements elements set = (element : ℕ) → is_in set element ≡ list_any (λ one. one == element) elements
 
--- a set is what a test accepts, where the test is a fold
+-- a set is what a test accepts of a table's elements: none of them where the test is no fold
 abbrev pub IsAccepted : PlainTest → List Bool → Type 0
-IsAccepted (Sum measure check) set = Unit {0}
-IsAccepted (Length check) set = Unit {0}
+IsAccepted (Sum measure check) set = HasElements [] set
+IsAccepted (Length check) set = HasElements [] set
 IsAccepted (Fold table picks accept) set = HasElements accept set
 
 -- a set for each test, of what it accepts

@@ -1,7 +1,7 @@
 -- The product of a fold in its table.
 use Rattle.std.specs.Prelude.{ℕ, List, Option, Some, None}
 use Rattle.std.specs.List.{find}
-use Rattle.monoid_kit.specs.Product.{product_by}
+use Rattle.monoid_kit.specs.Product.{product_from_left}
 use Rattle.monoid_kit.specs.Table.{PlainTable, table_mul}
 use Rattle.shape_gen.specs.declared.mark.Mark.{Mark}
 use Rattle.gta_checked.specs.PlainRows.{PlainRows}
@@ -17,7 +17,7 @@ element_of unit (Some pick) = pick.element
 abbrev pub picked : PlainRows → ℕ → List PlainPick → ℕ → ℕ → ℕ
 picked rows unit picks row label = element_of unit (find (λ pick. holds rows row label pick.cond) picks)
 
--- the product in a table, from left to right, of the elements that the marks pick
+-- the product in a table, from left to right and beginning with its unit, of the elements that the marks pick
 abbrev pub folded : PlainRows → PlainTable → List PlainPick → List Mark → ℕ
 folded rows table picks marks =
-    product_by table.unit (table_mul table) (λ mark. picked rows table.unit picks mark.row mark.label) marks
+    product_from_left table.unit (table_mul table) (λ mark. picked rows table.unit picks mark.row mark.label) marks

@@ -44,7 +44,8 @@ impl ElementSet {
     }
 }
 
-/// For each test the elements that it accepts, or none where it is no fold. It takes memory for them.
+/// For each test a set of the elements that it accepts; it is empty where the test is no fold. It takes memory
+/// for them.
 pub fn accepted_elements(alloc: Global, checked: &Checked) -> Result<Vec<ElementSet>, AllocError>
     ensures { IfOk result (λ sets. AreAccepted checked.now.tests sets.items) }
 {

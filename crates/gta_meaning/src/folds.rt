@@ -27,7 +27,7 @@ pub fn picked(rows: &Rows, unit: u32, picks: &[Pick], row: u32, label: u32) -> u
     unit
 }
 
-/// The product in a table, from left to right, of the elements that the marks pick.
+/// The product in a table, from left to right and beginning with its unit, of the elements that the marks pick.
 pub(crate) fn folded(rows: &Rows, monoid: &TableMonoid, picks: &[Pick], marks: &[Mark]) -> u32
     requires within { (labels : ℕ)
         × All (IsPickWithin rows.now.columns labels (plain_table monoid.now).size) (map plain_pick picks.now) }

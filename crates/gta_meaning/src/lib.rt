@@ -22,4 +22,4 @@ pub use heavy::{first_heavy, goal_measure};
 pub use listing::{ListFault, list_kept};
 pub use passing::passes;
 pub use totals::weight_of;
-pub use values::{VALUE_BOUND, value_of};
+pub use values::{VALUE_BOUND, compares, value_of};

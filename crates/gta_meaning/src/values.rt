@@ -71,7 +71,7 @@ fn atom_holds(rows: &Rows, atom: Atom, row: u32, label: u32) -> bool
     }
 }
 
-// Whether the first number is at most, at least or equal to the second.
+/// Whether the first number is at most, at least or equal to the second. Takes no memory.
 pub fn compares(cmp: Cmp, a: i128, b: i128) -> bool
     ensures { result ≡ values.compares cmp a b }
 {

@@ -1,5 +1,4 @@
 pub mod Digits
-pub mod FirstLine
 pub mod Skipping
 pub mod RawLines
 pub mod Slices

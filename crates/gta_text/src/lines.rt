@@ -1,10 +1,10 @@
-//! Lines of a text. The first line is in specs/Lines.antt, and the lines of tokens before the line
-//! `rows` are in specs/Text.antt.
-ghost use Rattle.std.specs.Prelude.{◌≡◌, ◌+◌, ◌<◌, ◌≤◌, ◌++◌, length, map, min, option_map};
+//! Lines of a text. Where a line ends is in specs/Lines.antt, and the lines of tokens before the
+//! line `rows` are in specs/Text.antt.
+ghost use Rattle.std.specs.Prelude.{◌≡◌, ◌+◌, ◌<◌, ◌≤◌, ◌++◌, length, map, min};
 ghost use Rattle.std.specs.Prelude.{IfOk, IfSome, OnOk};
 ghost use Rattle.std.specs.List.{prefix_len};
 ghost use Rattle.std.specs.Str.{bytes_eq};
-ghost use Rattle.gta_text.specs.Lines.{is_inside, split_line};
+ghost use Rattle.gta_text.specs.Lines.{is_inside};
 ghost use Rattle.gta_text.specs.Text.{without_last, content, is_plain, first_bad, is_rows};
 ghost use Rattle.gta_text.specs.Text.{mark_length, read_lines, line_view, line_if, lines_view};
 ghost use Rattle.gta_text.specs.Text.{Gives, AreHeld};
@@ -153,21 +153,6 @@ fn mark_length(bytes: &[u8]) -> usize
         [0xef, 0xbb, 0xbf, ..] => 3,
         _ => 0,
     }
-}
-
-/// What stands before the first LF, and what follows it; `None` where there is no LF.
-/// Takes no memory.
-#[tactic(auto, using(crate::proofs::FirstLine::split_line_inside, crate::proofs::FirstLine::split_line_whole))]
-pub fn first_line(bytes: &[u8]) -> Option<(&[u8], &[u8])>
-    ensures { option_map (λ parts. (parts.0.now, parts.1.now)) result ≡ split_line bytes.now }
-{
-    let end = length_inside(bytes);
-    if end == bytes.len() {
-        return None;
-    }
-    let (line, _) = bytes.split_at(end);
-    let (_, rest) = bytes.split_at(end + 1);
-    Some((line, rest))
 }
 
 /// How many bytes stand before the first LF, or before the end.

@@ -1,10 +1,10 @@
 -- Products of lists, grouped by what the lemmas need of the operation: nothing, a monoid, a commutative monoid.
 -- Where the operation is a sum, they are lemmas on sums.
 use Rattle.std.proofs.Common.{◌≡◌, Bool, true, false, List, [], ◌∷◌, ◌++◌, map, cond, inl, inr, refl, sym, ap, ◌∙◌}
-use Rattle.std.specs.List.{filter, flat_map}
+use Rattle.std.specs.List.{filter, flat_map, fold}
 use Rattle.monoid_kit.specs.Monoid.{IsMonoidOn, IsCommutativeMonoidOn}
 use Rattle.monoid_kit.specs.Items.{IsIn, AllElements, pairs}
-use Rattle.monoid_kit.specs.Product.{product_by, only}
+use Rattle.monoid_kit.specs.Product.{product_by, product_from_left, only}
 use Rattle.monoid_kit.proofs.Items.{AllElements-flat_map, AllElements-filter, AllElements-map}
 
 -- of any operation
@@ -32,6 +32,23 @@ module _ {E : Type 0} {is_element : E → Type 0} {unit : E} {mul : E → E → 
   product_by-is_element f (x ∷ xs) elements =
       monoid.product_is_element (f x) (product_by unit mul f xs) (elements x (inl refl))
       (product_by-is_element f xs (λ y y_in. elements y (inr y_in)))
+
+  product_from_left-onto : {X : Type 0} (f : X → E) (xs : List X) (front : E)
+      → is_element front → AllElements is_element f xs
+      → fold (λ product x. mul product (f x)) front xs ≡ mul front (product_by unit mul f xs)
+  product_from_left-onto f [] front front_in elements = sym (monoid.right_identity front front_in)
+  product_from_left-onto f (x ∷ xs) front front_in elements =
+      product_from_left-onto f xs (mul front (f x)) (monoid.product_is_element front (f x) front_in (elements x (inl refl)))
+      (λ y y_in. elements y (inr y_in))
+      ∙ monoid.associative front (f x) (product_by unit mul f xs) front_in (elements x (inl refl))
+      (product_by-is_element f xs (λ y y_in. elements y (inr y_in)))
+
+  -- in a monoid, products from left to right are the products of lists
+  pub product_from_left-product_by : {X : Type 0} (f : X → E) (xs : List X) → AllElements is_element f xs
+      → product_from_left unit mul f xs ≡ product_by unit mul f xs
+  product_from_left-product_by f xs elements =
+      product_from_left-onto f xs unit monoid.unit_is_element elements
+      ∙ monoid.left_identity (product_by unit mul f xs) (product_by-is_element f xs elements)
 
   pub product_by-unit : {X : Type 0} (f : X → E) (xs : List X)
       → ((x : X) → IsIn x xs → f x ≡ unit) → product_by unit mul f xs ≡ unit

@@ -2,7 +2,7 @@
 use Rattle.std.specs.Prelude.{◌≡◌, ℕ, List, nat_eq}
 use Rattle.monoid_kit.specs.Product.{product_by, only}
 
--- the product, from left to right, of what f gives at the items whose key is k
+-- the product of what f gives at the items whose key is k, in their order
 abbrev pub keyed : {E X : Type 0} → E → (E → E → E) → (X → ℕ) → (X → E) → List X → ℕ → E
 keyed unit mul key f xs k = product_by unit mul (λ x. only unit (nat_eq (key x) k) (f x)) xs
 

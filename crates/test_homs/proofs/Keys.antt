@@ -1,7 +1,7 @@
 -- What the key of a candidate decides: its digits are the products of the tests, and each decides its test.
 use Rattle.std.proofs.Common.{◌≡◌, ℕ, ◌+◌, ◌<◌, ℤ, pos, ◌≤ℤ◌, ◌&&◌, List, [], ◌∷◌, map}
-use Rattle.std.proofs.Common.{All, None, refl, ap, ◌∙◌, arith}
-use Rattle.std.specs.List.{list_all}
+use Rattle.std.proofs.Common.{All, None, ◌==◌, refl, sym, ap, ◌∙◌, arith}
+use Rattle.std.specs.List.{list_all, list_any}
 use Rattle.std.proofs.lemmas.Int.{ints}
 use Rattle.std.proofs.lemmas.List.Elements.{All-head, All-tail}
 use Rattle.monoid_kit.specs.Product.{product_by}
@@ -14,10 +14,12 @@ use Rattle.gta_spec.specs.declared.parts.Check.{Check}
 use Rattle.gta_spec.specs.declared.parts.Check.TheVariants.{Compare, Mod}
 use Rattle.gta_checked.specs.PlainRows.{PlainRows}
 use Rattle.gta_checked.specs.Plain.{NamedTable, PlainTest, Sum, Length, Fold, PlainChecked}
+use Rattle.gta_checked.specs.Tables.{table_at, no_table}
 use Rattle.gta_checked.specs.Within.{IsCheckWithin, IsTestWithin, IsTableWithin}
 use Rattle.gta_meaning.specs.InRange.{IsMarkInRange, label_count}
 use Rattle.gta_meaning.specs.Tests.{meets, passes_test}
 use Rattle.gta_meaning.specs.Values.{value, sum_of}
+use Rattle.gta_meaning.proofs.Products.{folded-product_by}
 use Rattle.test_homs.specs.Components.{check_part, test_part}
 use Rattle.test_homs.specs.Letters.{check_digit, check_accepts, test_digit, test_accepts, all_accept}
 use Rattle.test_homs.specs.Negatives.{negative_of_test, negative_from}
@@ -112,7 +114,11 @@ module _ (checked : PlainChecked) (rows : PlainRows) (columns labels measures : 
     test-decides number (Length check) within none =
         check-decides check (λ m. pos 1) (λ compared k d below. omega (arith, ints)) within
         ∙ ap (meets check) (sum_of-ones c)
-    test-decides number (Fold table picks accept) within none = refl
+    test-decides number (Fold table picks accept) within none =
+        let products = (table_at checked.tables table).products in
+        ap (λ product. list_any (λ element. element == product) accept)
+        (sym (folded-product_by rows columns labels products (lawful table no_table within.declared).lawful picks
+        within.each_pick c))
 
     pub tests-decide : (tests : List PlainTest) (number : ℕ) → All Within tests → negative_from checked rows number tests ≡ None
         → all_accept tests (map (test_product c) tests) ≡ list_all (passes_test checked rows c) tests

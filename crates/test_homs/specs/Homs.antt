@@ -20,7 +20,7 @@ pub record PlainTests : Type 0 where
   pub letters : List ℕ
   pub accept : List Bool
 
--- the key of a candidate: the product of its marks' letters, left to right
+-- the key of a candidate: the product of its marks' letters, in their order
 abbrev pub key_of : PlainTests → ℕ → List Mark → ℕ
 key_of tests labels c =
     product_by (product_unit tests.parts) (product_mul tests.parts)

@@ -4,15 +4,14 @@ ghost use Rattle.std.specs.Prelude.{◌≡◌, ◌≤◌, ◌<◌, length, map, 
 ghost use Rattle.gta_checked.specs.Plain.{plain_test};
 ghost use Rattle.gta_checked.specs.Within.{IsCheckWithin, IsTestWithin};
 ghost use Rattle.gta_meaning.specs.Elements.{AreAccepted, IsAccepted};
-ghost use Rattle.gta_meaning.specs.Values as values;
 ghost use Rattle.monoid_product.specs.Product.{key_count};
 ghost use Rattle.monoid_product.specs.ProductOf.{plain_parts};
 ghost use Rattle.test_homs.specs.Components.{test_parts};
 ghost use Rattle.test_homs.specs.Letters as letters;
 
 use gta_checked::{Checked, Test};
-use gta_meaning::{ElementSet, accepted_elements};
-use gta_spec::{Check, Cmp};
+use gta_meaning::{ElementSet, accepted_elements, compares};
+use gta_spec::Check;
 use monoid_kit::Monoid;
 use monoid_product::Product;
 use std::alloc::{AllocError, Global};
@@ -64,17 +63,7 @@ fn check_accepts(check: Check, digit: u32) -> bool
     ensures { result ≡ letters.check_accepts check digit }
 {
     match check {
-        Check::Compare { cmp, number } => compares(cmp, digit as i64, number),
+        Check::Compare { cmp, number } => compares(cmp, digit as i128, number as i128),
         Check::Mod { residue, .. } => digit as u64 == residue,
-    }
-}
-
-fn compares(cmp: Cmp, a: i64, b: i64) -> bool
-    ensures { result ≡ values.compares cmp a b }
-{
-    match cmp {
-        Cmp::AtMost => a <= b,
-        Cmp::AtLeast => a >= b,
-        Cmp::Equal => a == b,
     }
 }

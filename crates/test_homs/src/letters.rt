@@ -16,7 +16,7 @@ ghost use Rattle.test_homs.specs.Letters.{test_digits, test_digit, check_digit};
 
 use gta_checked::{Checked, Pick, Rows, Test};
 use gta_meaning::{label_count, picked, value_of};
-use gta_spec::{Check, ROW_LIMIT};
+use gta_spec::Check;
 use monoid_kit::Monoid;
 use monoid_product::Product;
 use std::alloc::{AllocError, Global};
@@ -29,7 +29,6 @@ pub(crate) fn all_letters(
     product: &Product,
 ) -> Result<Vec<u32>, AllocError>
     requires columns { in_range.HasColumnsOf checked.now (plain_rows rows.now) }
-    requires few { rows.now.count ≤ ROW_LIMIT }
     requires product { plain_parts product.now ≡ test_parts checked.now }
     ensures { IfOk result (λ found. found.items ≡ all_letters checked.now (plain_rows rows.now)) }
 {

@@ -21,7 +21,6 @@ use crate::letters::all_letters;
 use crate::negatives::first_negative;
 use gta_checked::{Checked, Rows};
 use gta_meaning::label_count;
-use gta_spec::ROW_LIMIT;
 use monoid_product::{Product, TooLarge, product_of};
 use std::alloc::{AllocError, AllocFailed, Global};
 use std::marker::Model;
@@ -128,7 +127,6 @@ impl Tests {
 /// is none, where the tests have more than 8,192 keys together.
 pub fn prepare_tests(alloc: Global, checked: &Checked, rows: &Rows) -> Result<Tests, ValueFault>
     requires columns { HasColumnsOf checked.now (plain_rows rows.now) }
-    requires few { rows.now.count ≤ ROW_LIMIT }
     ensures natural { OnOk result (first_negative checked.now (plain_rows rows.now) ≡ None) }
     ensures small { OnOk result (key_count checked.now ≤ KEY_LIMIT) }
     ensures prepared { IfOk result (ArePrepared checked.now (plain_rows rows.now)) }
@@ -155,7 +153,6 @@ fn tests_in(
     product: Product,
 ) -> Result<Tests, AllocError>
     requires columns { HasColumnsOf checked.now (plain_rows rows.now) }
-    requires few { rows.now.count ≤ ROW_LIMIT }
     requires product { plain_parts product ≡ test_parts checked.now }
     ensures { IfOk result (λ tests. tests ≡ prepared checked.now (plain_rows rows.now)) }
 {

@@ -1,7 +1,6 @@
 //! Worked examples in bytes.
 use gta_text::{
-    INPUT_BOUND, Name, TextFault, TokenKind, digits_value, field_value, first_line, is_name,
-    lines_of,
+    INPUT_BOUND, Name, TextFault, TokenKind, digits_value, field_value, is_name, lines_of,
 };
 use std::alloc::Global;
 use std::fmt::Write;
@@ -108,19 +107,6 @@ fn reserved_words_are_no_names(rt: HostRuntime) {
     ];
     for word in words {
         assert!(rt; !is_name(word), "at {word:?}");
-    }
-}
-
-#[test]
-fn first_lines(rt: HostRuntime) {
-    let cases: [(&[u8], Option<(&[u8], &[u8])>); 4] = [
-        (b"", None),
-        (b"one", None),
-        (b"\n", Some((b"", b""))),
-        (b"one\ntwo\n", Some((b"one", b"two\n"))),
-    ];
-    for (bytes, parts) in cases {
-        assert!(rt; first_line(bytes) == parts, "at {bytes:?}");
     }
 }
 

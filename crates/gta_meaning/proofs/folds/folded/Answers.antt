@@ -1,12 +1,19 @@
-use Rattle.std.proofs.Common.{map, take, get_or, sym, ap, ◌∙◌}
+use Rattle.std.proofs.Common.{◌<◌, map, take, get_or, sym, ap, subst, ◌∙◌}
 use Rattle.monoid_kit.specs.Table.{table_mul}
 use Rattle.monoid_kit.specs.TableOf.{plain_table}
 use Rattle.shape_gen.specs.Candidates.{mark}
 use Rattle.gta_checked.specs.Plain.{plain_pick}
 use Rattle.gta_checked.specs.PlainRows.{plain_rows}
 use Rattle.gta_meaning.specs.Folds.{folded}
-use Rattle.gta_meaning.proofs.Products.{picked-is_element, folded-more}
+use Rattle.gta_meaning.proofs.Products.{picked-is_element, folded-is_element, folded-more}
 use Rattle.gta_meaning.proofs.folds.folded.Goals as goal
+
+pub mul-product-requires-clause-left_is_element : goal.mul-product-requires-clause-left_is_element
+mul-product-requires-clause-left_is_element c =
+    let w = c.requires.within in
+    subst (λ product. product < c.args.monoid.now.size) (sym c.loop-mark.invariant)
+    (folded-is_element (plain_rows c.args.rows.now) c.args.rows.now.columns w.0 (plain_table c.args.monoid.now)
+    c.args.monoid.now.lawful (map plain_pick c.args.picks.now) w.1 (take c.loop-mark.mark-index c.args.marks.now))
 
 pub mul-product-requires-clause-right_is_element : goal.mul-product-requires-clause-right_is_element
 mul-product-requires-clause-right_is_element c =
@@ -27,5 +34,4 @@ loop-mark-preserved c =
     c.mul-product.ensures
     ∙ ap (λ product. table_mul table product c.picked-element.result) c.loop-mark.invariant
     ∙ ap (table_mul table (folded rows table picks (take c.loop-mark.mark-index c.args.marks.now))) same
-    ∙ sym (folded-more rows c.args.rows.now.columns w.0 table c.args.monoid.now.lawful picks w.1 c.args.marks.now
-    c.loop-mark.mark-index (mark 0 0) c.loop-mark-test.true)
+    ∙ sym (folded-more rows table picks c.args.marks.now c.loop-mark.mark-index (mark 0 0) c.loop-mark-test.true)
