@@ -3,4 +3,3 @@ pub mod Merges
 pub mod Places
 pub mod Rows
 pub mod Picks
-pub mod Worked

@@ -17,6 +17,3 @@ pub use aggregate::best_sums_are_aggregates;
 pub use best::Best;
 pub use entry::Entry;
 pub use kit::BestK;
-
-#[cfg(test)]
-mod tests;

@@ -11,8 +11,6 @@ mod opening;
 mod seat;
 mod sharing;
 mod table;
-#[cfg(test)]
-mod tests;
 mod view;
 
 pub use answers::{Claimed, Leftover, Offered, PutBack, Settled};

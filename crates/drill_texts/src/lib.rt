@@ -7,6 +7,3 @@ mod table;
 
 pub use drill::{BYTES_LIMIT, Drill, drill_text, heading};
 pub use table::ROWS_LIMIT;
-
-#[cfg(test)]
-mod tests;

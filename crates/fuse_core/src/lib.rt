@@ -10,8 +10,6 @@ mod letter;
 mod pieces;
 mod plan;
 mod rows;
-#[cfg(test)]
-mod tests;
 mod tuples;
 
 pub use finishing::finish;

@@ -7,6 +7,3 @@ mod printing;
 mod showing;
 
 pub use showing::show_spec;
-
-#[cfg(test)]
-mod tests;

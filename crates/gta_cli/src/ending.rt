@@ -1,10 +1,10 @@
 //! From words and a source to a text, or why there is none. Nothing is written here.
-//! specs/Endings.antt says when each ending comes.
+//! specs/Causes.antt says when each ending comes.
 
-ghost use Rattle.std.specs.Prelude.{◌≡◌, ◌≤◌, Some, map, string_bytes, IfOk, IfErr, IfSome, OnOk, IsErrOf};
-ghost use Rattle.gta_port.specs.Port.{Rose};
+ghost use Rattle.std.specs.Prelude.{◌≡◌, Some, Ok, map, string_bytes, IfOk, IfErr, IfSome, OnOk};
 ghost use Rattle.gta_words.specs.Words.{IsWithinOptions, command_of};
-ghost use Rattle.gta_cli.specs.Endings.{IsText, IsDrill, IsReadBy, Explains};
+ghost use Rattle.gta_cli.specs.Causes.{Explains};
+ghost use Rattle.gta_cli.specs.Endings.{ComesTo, IsDrill, IsReadWhole};
 
 use gta_job::{INPUT_LIMIT, JobEnd, answer_job, drill_job, list_job, show_job};
 use gta_port::{ReadEnd, Source, read_all};
@@ -27,7 +27,7 @@ pub enum Ending {
 }
 
 impl From<WordsFault> for Ending {
-    ghost use Rattle.gta_cli.specs.Endings.{ending_of_words};
+    ghost use Rattle.gta_cli.specs.Causes.{ending_of_words};
 
     ghost from_gives = { λ fault ending. ending ≡ ending_of_words fault };
 
@@ -40,7 +40,7 @@ impl From<WordsFault> for Ending {
 }
 
 impl From<ReadEnd> for Ending {
-    ghost use Rattle.gta_cli.specs.Endings.{ending_of_read};
+    ghost use Rattle.gta_cli.specs.Causes.{ending_of_read};
 
     ghost from_gives = { λ end ending. ending ≡ ending_of_read end };
 
@@ -54,7 +54,7 @@ impl From<ReadEnd> for Ending {
 }
 
 impl From<JobEnd> for Ending {
-    ghost use Rattle.gta_cli.specs.Endings.{ending_of_job};
+    ghost use Rattle.gta_cli.specs.Causes.{ending_of_job};
 
     ghost from_gives = { λ end ending. ending ≡ ending_of_job end };
 
@@ -74,15 +74,13 @@ pub(crate) fn answer<R: Threads + Sync, S: Source>(
     source: &mut S,
 ) -> Result<Vec<u8>, Ending>
     ensures text { IfOk result (λ text.
-        IsText (command_of (map string_bytes words.now)) (S.left source.old) text.items) }
-    ensures end { OnOk result (IfSome (command_of (map string_bytes words.now)) (λ command.
-        IsReadBy command (S.left source.new))) }
-    ensures drilled { IfSome (command_of (map string_bytes words.now)) (λ command.
-        IsDrill command → source.new ≡ source.old) }
+        ComesTo (command_of (map string_bytes words.now)) (S.left source.old) (Ok text.items)) }
+    ensures whole { OnOk result (IsReadWhole (command_of (map string_bytes words.now)) (S.left source.new)) }
     ensures steady { OnOk result (S.faults source.new ≡ S.faults source.old) }
-    ensures cause { IfErr result (Explains (command_of (map string_bytes words.now)) (S.left source.old)
-        (Rose (S.faults source.old) (S.faults source.new)) (S.faults source.new ≡ S.faults source.old)) }
-    ensures unread { IsErrOf result Ending.Usage → source.new ≡ source.old }
+    ensures cause { IfErr result (Explains (command_of (map string_bytes words.now)) (record { old = S.left source.old; new = S.left source.new;
+        faults_old = S.faults source.old; faults_new = S.faults source.new; same = source.new ≡ source.old })) }
+    ensures drill { IfSome (command_of (map string_bytes words.now)) (λ command.
+        IsDrill command → source.new ≡ source.old) }
 {
     let command = read_words(alloc, words)?;
     text_by(rt, alloc, command, source)
@@ -96,13 +94,12 @@ fn text_by<R: Threads + Sync, S: Source>(
     source: &mut S,
 ) -> Result<Vec<u8>, Ending>
     requires within { IsWithinOptions command }
-    ensures text { IfOk result (λ text. IsText (Some command) (S.left source.old) text.items) }
-    ensures end { OnOk result (IsReadBy command (S.left source.new)) }
-    ensures drilled { IsDrill command → source.new ≡ source.old }
+    ensures text { IfOk result (λ text. ComesTo (Some command) (S.left source.old) (Ok text.items)) }
+    ensures whole { OnOk result (IsReadWhole (Some command) (S.left source.new)) }
     ensures steady { OnOk result (S.faults source.new ≡ S.faults source.old) }
-    ensures cause { IfErr result (Explains (Some command) (S.left source.old)
-        (Rose (S.faults source.old) (S.faults source.new)) (S.faults source.new ≡ S.faults source.old)) }
-    ensures command { IsErrOf result Ending.Usage → ⊥ }
+    ensures cause { IfErr result (Explains (Some command) (record { old = S.left source.old; new = S.left source.new;
+        faults_old = S.faults source.old; faults_new = S.faults source.new; same = source.new ≡ source.old })) }
+    ensures drill { IsDrill command → source.new ≡ source.old }
 {
     match command {
         Command::Run { workers, leaf } => {

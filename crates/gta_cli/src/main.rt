@@ -4,6 +4,7 @@
 
 mod ending;
 mod says;
+mod status;
 #[cfg(test)]
 mod tests;
 mod top;
@@ -44,7 +45,7 @@ fn main(rt: HostRuntime) -> ExitCode {
     let words = match words_of(&rt) {
         Ok(words) => words,
         Err(NoWords::NotGiven) => return ExitCode::from(NO_WORDS),
-        Err(NoWords::Memory) => return ExitCode::from(top::out_of_memory(&mut err)),
+        Err(NoWords::Memory) => return ExitCode::from(says::out_of_memory(&mut err).number()),
     };
     let mut source = StdSource::new(rt.stdin());
     let mut out = StdSink::new(rt.stdout());

@@ -1,31 +1,31 @@
 //! Lines on the error output.
 
 ghost use Rattle.std.specs.Prelude.{◌≡◌, ◌≤◌};
-ghost use Rattle.std.specs.Io.KnownBytes.{Appends};
-ghost use Rattle.gta_port.specs.Port.{GainsFront, Rose};
 ghost use Rattle.gta_cli.specs.Endings.{Says};
-ghost use Rattle.gta_cli.specs.declared.top.TheConstants.{WRITE_FAULT};
+ghost use Rattle.gta_cli.specs.Lines.{out_of_memory_line};
+ghost use Rattle.gta_cli.specs.declared.status.Status.TheVariants.{NoMemory};
 
-use crate::top::WRITE_FAULT;
+use crate::status::Status;
 use gta_port::{Sink, write_all_of};
+
+const OUT_OF_MEMORY_LINE: &[u8] = b"out of memory\n";
 
 /// Writes a line as far as it goes: whole where no write failed.
 pub(crate) fn say<E: Sink>(err: &mut E, line: &[u8])
-    ensures says { Says (E.gone err.old) (E.gone err.new) line.now (Rose (E.faults err.old) (E.faults err.new)) }
+    ensures says { Says (record { old = E.gone err.old; new = E.gone err.new; faults_old = E.faults err.old;
+        faults_new = E.faults err.new; same = err.new ≡ err.old }) line.now }
     ensures counts { E.faults err.old ≤ E.faults err.new }
 {
     let _ = write_all_of(err, line);
 }
 
-/// Writes a line whole and gives the status, or gives `WRITE_FAULT` where a write failed.
-pub(crate) fn said<E: Sink>(err: &mut E, line: &[u8], status: u8) -> u8
-    ensures whole { result ≡ status → (status ≡ WRITE_FAULT → ⊥) → Appends (E.gone err.old) (E.gone err.new) line.now }
-    ensures front { GainsFront (E.gone err.old) (E.gone err.new) line.now }
-    ensures fault { (result ≡ status → ⊥) → (result ≡ WRITE_FAULT) × Rose (E.faults err.old) (E.faults err.new) }
+/// Says that memory was wanting, and gives the status of it. It takes no memory.
+pub(crate) fn out_of_memory<E: Sink>(err: &mut E) -> Status
+    ensures status { result ≡ NoMemory }
+    ensures says { Says (record { old = E.gone err.old; new = E.gone err.new; faults_old = E.faults err.old;
+        faults_new = E.faults err.new; same = err.new ≡ err.old }) out_of_memory_line }
     ensures counts { E.faults err.old ≤ E.faults err.new }
 {
-    match write_all_of(err, line) {
-        Ok(()) => status,
-        Err(_) => WRITE_FAULT,
-    }
+    say(err, OUT_OF_MEMORY_LINE);
+    Status::NoMemory
 }

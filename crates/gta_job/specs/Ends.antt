@@ -1,5 +1,5 @@
--- The refusals that faults are told by.
-use Rattle.std.specs.Prelude.{◌≡◌, Option, Some, None}
+-- The refusals that faults are told by, and what a call tells: an outcome, or that memory was wanting.
+use Rattle.std.specs.Prelude.{◌≡◌, Option, Some, None, Result, Ok, Err}
 use Rattle.gta_syntax.specs.declared.fault.SpecFault.{SpecFault}
 use Rattle.gta_syntax.specs.declared.fault.SpecFault.TheVariants as reading
 use Rattle.gta_types.specs.declared.fault.CheckFault.{CheckFault}
@@ -8,6 +8,7 @@ use Rattle.gta_rows.specs.declared.fault.RowsFault.{RowsFault}
 use Rattle.gta_rows.specs.declared.fault.RowsFault.TheVariants as table
 use Rattle.report_text.specs.declared.refusal.Refusal.{Refusal}
 use Rattle.report_text.specs.declared.refusal.Refusal.TheVariants as refusals
+use Rattle.report_text.specs.declared.refusal.Refusal.TheVariants.{Input}
 use Rattle.gta_job.specs.declared.job.JobEnd.{JobEnd}
 use Rattle.gta_job.specs.declared.job.JobEnd.TheVariants.{Refused, Memory}
 
@@ -48,7 +49,27 @@ abbrev pub refusal_in : JobEnd → Option Refusal
 refusal_in (Refused refusal) = Some refusal
 refusal_in Memory = None
 
--- an end without an answer carries the refusal; want of memory is free
-abbrev pub IsEndOf : Option Refusal → JobEnd → Type 0
-IsEndOf refusal (Refused r) = refusal ≡ Some r
-IsEndOf refusal Memory = Unit {0}
+-- the refusal of an end. Want of memory is none: no definition of what bytes are gives it
+abbrev pub refused : {T : Type 0} → JobEnd → Result T Refusal
+refused (Refused refusal) = Err refusal
+refused Memory = Err Input
+
+-- an end without an answer carries the outcome's refusal; want of memory is free
+abbrev pub Ends : {T : Type 0} → Result T Refusal → JobEnd → Type 0
+Ends outcome (Refused refusal) = outcome ≡ Err refusal
+Ends outcome Memory = Unit {0}
+
+-- a result tells an outcome: its value is seen as the outcome's, or it is the outcome's refusal; want of memory is free
+abbrev pub Tells : {S T : Type 0} → (S → T) → Result T Refusal → Result S JobEnd → Type 0
+Tells seen outcome (Ok value) = outcome ≡ Ok (seen value)
+Tells seen outcome (Err end) = Ends outcome end
+
+-- an end carries the refusal that there is; want of memory is free
+abbrev pub Stops : Option Refusal → JobEnd → Type 0
+Stops refusal (Refused r) = refusal ≡ Some r
+Stops refusal Memory = Unit {0}
+
+-- a result is there where there is no refusal, and else it is the refusal
+abbrev pub Passes : {S : Type 0} → Option Refusal → Result S JobEnd → Type 0
+Passes refusal (Ok value) = refusal ≡ None
+Passes refusal (Err end) = Stops refusal end

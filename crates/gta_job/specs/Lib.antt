@@ -1,5 +1,4 @@
 pub mod Answers
 pub mod Sizes
 pub mod Ends
-pub mod Jobs
-pub mod Prepared
+pub mod Outcome

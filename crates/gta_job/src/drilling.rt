@@ -1,13 +1,12 @@
 //! Answers the three jobs of a drill. Which text that is, and which refusal comes in its place, is in
-//! specs/Jobs.antt.
+//! specs/Outcome.antt.
 
-ghost use Rattle.std.specs.Prelude.{◌≡◌, ◌≤◌, [], None, IfOk, IfErr, OnOk};
-ghost use Rattle.drill_texts.specs.Drills as texts;
+ghost use Rattle.std.specs.Prelude.{◌≤◌, []};
 ghost use Rattle.drill_texts.specs.declared.table.TheConstants.{ROWS_LIMIT};
 ghost use Rattle.gta_words.specs.declared.words.Command.TheVariants as commands;
 ghost use Rattle.gta_words.specs.declared.words.TheConstants.{LEAF_LIMIT, WORKER_LIMIT};
-ghost use Rattle.gta_job.specs.Ends.{IsEndOf};
-ghost use Rattle.gta_job.specs.Jobs.{job_refusal, refusal_of_part, report_of_part, text_of};
+ghost use Rattle.gta_job.specs.Ends.{Tells};
+ghost use Rattle.gta_job.specs.Outcome.{outcome, part_outcome};
 
 use crate::job::{JobEnd, answer_job};
 use drill_texts::{Drill, drill_text, heading};
@@ -16,7 +15,6 @@ use std::thread::Threads;
 
 /// The heading and the reports of the drill's three jobs over the table of this seed and number of rows, each as a run
 /// gives it; or the first refusal of the three in turn.
-#[tactic(auto, unfolding(crate::specs::Jobs::job_refusal))]
 pub fn drill_job<R: Threads + Sync>(
     rt: &R,
     alloc: Global,
@@ -31,9 +29,7 @@ pub fn drill_job<R: Threads + Sync>(
     requires few_workers { workers ≤ WORKER_LIMIT }
     requires some_leaf { 1 ≤ leaf }
     requires few_leaf { leaf ≤ LEAF_LIMIT }
-    ensures accepted { OnOk result (job_refusal (commands.Drill seed rows workers leaf) [] ≡ None) }
-    ensures text { IfOk result (λ text. text.items ≡ text_of (commands.Drill seed rows workers leaf) []) }
-    ensures refused { IfErr result (IsEndOf (job_refusal (commands.Drill seed rows workers leaf) [])) }
+    ensures tells { Tells (λ text. text.items) (outcome (commands.Drill seed rows workers leaf) []) result }
 {
     let mut text = heading(alloc, seed, rows)?;
     let best = part_report(rt, alloc, Drill::Best, seed, rows, workers, leaf)?;
@@ -60,9 +56,7 @@ fn part_report<R: Threads + Sync>(
     requires few_workers { workers ≤ WORKER_LIMIT }
     requires some_leaf { 1 ≤ leaf }
     requires few_leaf { leaf ≤ LEAF_LIMIT }
-    ensures accepted { OnOk result (refusal_of_part leaf seed rows drill ≡ None) }
-    ensures text { IfOk result (λ text. text.items ≡ report_of_part seed rows drill) }
-    ensures refused { IfErr result (IsEndOf (refusal_of_part leaf seed rows drill)) }
+    ensures tells { Tells (λ text. text.items) (part_outcome leaf seed rows drill) result }
 {
     let text = drill_text(alloc, drill, seed, rows)?;
     answer_job(rt, alloc, text.as_slice(), workers, leaf)

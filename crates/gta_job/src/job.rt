@@ -1,25 +1,20 @@
-//! Answers a whole job, and shows its specification. What the texts are, and which refusal comes in their place, is in
-//! specs/Jobs.antt.
+//! Answers a whole job, and shows its specification. What a command comes to on bytes, its text or its first refusal, is in
+//! specs/Outcome.antt; the steps that commands share are in steps.rt.
 
-ghost use Rattle.std.specs.Prelude.{◌≡◌, ◌≤◌, drop, length, None, Some, Ok, IfOk, IfErr, OnOk};
+ghost use Rattle.std.specs.Prelude.{◌≡◌, ◌≤◌, length};
 ghost use Rattle.gta_words.specs.declared.words.Command.TheVariants.{Run, Show};
 ghost use Rattle.gta_words.specs.declared.words.TheConstants.{LEAF_LIMIT, WORKER_LIMIT};
 ghost use Rattle.gta_text.specs.declared.lines.TheConstants.{INPUT_BOUND};
-ghost use Rattle.gta_spec.specs.Parts.{spec_tree};
-ghost use Rattle.gta_spec.specs.WellFormed.{IsWellFormed};
-ghost use Rattle.gta_syntax.specs.Refusals.{read_tree, spec_of};
-ghost use Rattle.gta_types.specs.Faults.{check_fault};
-ghost use Rattle.gta_types.specs.ResolvedOf.{resolved_of};
-ghost use Rattle.gta_job.specs.Ends.{IsEndOf};
-ghost use Rattle.gta_job.specs.Jobs.{job_refusal, refusal_of_spec, text_of};
+ghost use Rattle.gta_job.specs.Ends.{Tells};
+ghost use Rattle.gta_job.specs.Outcome.{outcome};
 
-use crate::rows_job::table_job;
+use crate::rows_job::rows_report;
+use crate::steps::{bytes_from, checked_spec, table_rows};
 use fuse_answer::Crew;
 use gta_canonical::show_spec;
-use gta_checked::Checked;
 use gta_rows::RowsFault;
-use gta_syntax::{Read, SpecFault, read_spec};
-use gta_types::{CheckFault, check};
+use gta_syntax::SpecFault;
+use gta_types::CheckFault;
 use report_text::Refusal;
 use std::alloc::{AllocError, Global};
 use std::thread::Threads;
@@ -141,15 +136,12 @@ pub fn answer_job<R: Threads + Sync>(
     requires few_workers { workers ≤ WORKER_LIMIT }
     requires some_leaf { 1 ≤ leaf }
     requires few_leaf { leaf ≤ LEAF_LIMIT }
-    ensures accepted { OnOk result (job_refusal (Run workers leaf) bytes.now ≡ None) }
-    ensures text { IfOk result (λ text. text.items ≡ text_of (Run workers leaf) bytes.now) }
-    ensures refused { IfErr result (IsEndOf (job_refusal (Run workers leaf) bytes.now)) }
+    ensures tells { Tells (λ text. text.items) (outcome (Run workers leaf) bytes.now) result }
 {
     answer_with(rt, alloc, bytes, workers, leaf, &OpenGate)
 }
 
 /// The same, by workers that pass this gate at each of their turns. What the gate does shows nowhere.
-#[tactic(auto, unfolding(crate::specs::Jobs::job_refusal))]
 pub fn answer_with<R: Threads + Sync, G: Gate + Sync>(
     rt: &R,
     alloc: Global,
@@ -163,44 +155,18 @@ pub fn answer_with<R: Threads + Sync, G: Gate + Sync>(
     requires few_workers { workers ≤ WORKER_LIMIT }
     requires some_leaf { 1 ≤ leaf }
     requires few_leaf { leaf ≤ LEAF_LIMIT }
-    ensures accepted { OnOk result (job_refusal (Run workers leaf) bytes.now ≡ None) }
-    ensures text { IfOk result (λ text. text.items ≡ text_of (Run workers leaf) bytes.now) }
-    ensures refused { IfErr result (IsEndOf (job_refusal (Run workers leaf) bytes.now)) }
+    ensures tells { Tells (λ text. text.items) (outcome (Run workers leaf) bytes.now) result }
 {
     let (read, checked) = checked_spec(alloc, bytes)?;
-    let table = bytes_from(bytes, read.rows_at);
-    table_job(rt, alloc, Crew { workers, leaf }, gate, &checked, table)
+    let rows = table_rows(alloc, &checked, bytes_from(bytes, read.rows_at))?;
+    rows_report(rt, alloc, Crew { workers, leaf }, gate, &checked, &rows)
 }
 
 /// The canonical text of the specification that the bytes hold, or its refusal. The table is not looked at.
-#[tactic(auto, unfolding(crate::specs::Jobs::job_refusal))]
 pub fn show_job(alloc: Global, bytes: &[u8]) -> Result<Vec<u8>, JobEnd>
     requires within { length bytes.now ≤ INPUT_BOUND }
-    ensures accepted { OnOk result (job_refusal Show bytes.now ≡ None) }
-    ensures text { IfOk result (λ text. text.items ≡ text_of Show bytes.now) }
-    ensures refused { IfErr result (IsEndOf (job_refusal Show bytes.now)) }
+    ensures tells { Tells (λ text. text.items) (outcome Show bytes.now) result }
 {
     let (read, _checked) = checked_spec(alloc, bytes)?;
     Ok(show_spec(alloc, &read.spec)?)
-}
-
-/// The specification that the bytes hold, as it is read and as it is resolved, or its refusal.
-pub(crate) fn checked_spec(alloc: Global, bytes: &[u8]) -> Result<(Read, Checked), JobEnd>
-    requires within { length bytes.now ≤ INPUT_BOUND }
-    ensures read { IfOk result (λ taken. spec_of bytes.now ≡ Ok (read_tree taken.0)) }
-    ensures well_formed { IfOk result (λ taken. IsWellFormed (spec_tree taken.0.spec)) }
-    ensures sound { IfOk result (λ taken. check_fault (spec_tree taken.0.spec) ≡ None) }
-    ensures resolved { IfOk result (λ taken. taken.1 ≡ resolved_of (spec_tree taken.0.spec)) }
-    ensures refused { IfErr result (IsEndOf (refusal_of_spec (spec_of bytes.now))) }
-{
-    let read = read_spec(alloc, bytes)?;
-    let checked = check(alloc, &read.spec)?;
-    Ok((read, checked))
-}
-
-/// The bytes from this place on, none where the place is past their end.
-pub(crate) fn bytes_from(bytes: &[u8], place: u32) -> &[u8]
-    ensures { result.now ≡ drop place bytes.now }
-{
-    bytes.get(place as usize..).unwrap_or(&[])
 }

@@ -1,5 +1,5 @@
 //! Whole jobs, from the bytes of an input to the bytes of an answer or the refusal.
-//! specs/Jobs.antt says what a command's text and its refusal are. What they rest on is in specs/Ends.antt
+//! specs/Outcome.antt says what a command comes to: its text or its first refusal. What that rests on is in specs/Ends.antt
 //! (faults told as refusals), specs/Sizes.antt (how large a job is) and specs/Answers.antt (the answer by its
 //! aggregate).
 #![tactic(auto)]
@@ -9,11 +9,9 @@ mod job;
 mod listing;
 mod rows_job;
 mod size;
+mod steps;
 
 pub use drilling::drill_job;
 pub use job::{INPUT_LIMIT, JobEnd, answer_job, answer_with, show_job};
 pub use listing::{CANDIDATE_LIMIT, MARK_LIMIT, list_job};
 pub use size::SIZE_LIMIT;
-
-#[cfg(test)]
-mod tests;

@@ -1,11 +1,11 @@
 //! The size of a job, which may not pass a limit. See specs/Sizes.antt.
 
-ghost use Rattle.std.specs.Prelude.{◌≡◌, ◌≤◌, ◌+◌, None, IfErr, OnOk};
+ghost use Rattle.std.specs.Prelude.{◌≡◌, ◌≤◌, ◌+◌};
 ghost use Rattle.monoid_product.specs.declared.product.TheConstants.{KEY_LIMIT};
 ghost use Rattle.gta_checked.specs.PlainRows.{plain_rows};
 ghost use Rattle.test_homs.specs.Sizes as tests;
 ghost use Rattle.gta_checked.specs.Within.{IsGoalWithin};
-ghost use Rattle.gta_job.specs.Ends.{IsEndOf};
+ghost use Rattle.gta_job.specs.Ends.{Passes};
 ghost use Rattle.gta_job.specs.Sizes as sizes;
 
 use crate::job::JobEnd;
@@ -17,13 +17,12 @@ use report_text::Refusal;
 pub const SIZE_LIMIT: u64 = 67108864;
 
 /// Refuses a job of so many keys whose size is past the limit.
-pub(crate) fn check_size(checked: &Checked, rows: &Rows, keys: u32, leaf: u32) -> Result<(), JobEnd>
+pub(crate) fn refuse_size(checked: &Checked, rows: &Rows, keys: u32, leaf: u32) -> Result<(), JobEnd>
     requires keys { keys ≡ tests.key_count checked.now }
     requires few_keys { keys ≤ KEY_LIMIT }
     requires few { rows.now.count ≤ ROW_LIMIT }
     requires some_rows { 1 ≤ leaf }
-    ensures accepted { OnOk result (sizes.size_refusal leaf checked.now (plain_rows rows.now) ≡ None) }
-    ensures refused { IfErr result (IsEndOf (sizes.size_refusal leaf checked.now (plain_rows rows.now))) }
+    ensures passes { Passes (sizes.size_refusal leaf checked.now (plain_rows rows.now)) result }
 {
     let size = job_size(checked, rows, keys, leaf);
     if size > SIZE_LIMIT {

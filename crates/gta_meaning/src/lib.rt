@@ -23,6 +23,3 @@ pub use listing::{ListFault, list_kept};
 pub use passing::passes;
 pub use totals::weight_of;
 pub use values::{VALUE_BOUND, compares, value_of};
-
-#[cfg(test)]
-mod tests;

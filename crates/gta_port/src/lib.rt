@@ -10,8 +10,6 @@ mod ports;
 mod reading;
 mod std_ports;
 mod steady;
-#[cfg(test)]
-mod tests;
 mod unread;
 mod writing;
 

@@ -13,6 +13,3 @@ mod table;
 
 pub use fault::RowsFault;
 pub use table::read_rows;
-
-#[cfg(test)]
-mod tests;

@@ -15,6 +15,3 @@ mod symbols;
 pub use fault::SpecFault;
 pub use law::reading_is_the_grammar;
 pub use reading::{Read, read_spec};
-
-#[cfg(test)]
-mod tests;

@@ -19,6 +19,3 @@ pub use name::Name;
 pub use numbers::{NUMBER_BOUND, digits_value, field_value};
 pub use token::{Token, TokenKind};
 pub use words::is_name;
-
-#[cfg(test)]
-mod tests;

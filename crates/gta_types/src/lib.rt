@@ -20,6 +20,3 @@ mod uses;
 pub use checking::check;
 pub use fault::CheckFault;
 pub use law::resolving_is_resolved_of;
-
-#[cfg(test)]
-mod tests;

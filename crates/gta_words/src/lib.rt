@@ -11,6 +11,3 @@ mod words;
 pub use words::{
     Command, DRILL_LIMIT, LEAF, LEAF_LIMIT, WORKER_LIMIT, WORKERS, WordsFault, read_words,
 };
-
-#[cfg(test)]
-mod tests;

@@ -5,8 +5,6 @@
 mod cut;
 mod fused;
 mod piece;
-#[cfg(test)]
-mod tests;
 
 pub use cut::{Cut, CutFault, cut_at, cut_of};
 pub use fused::Fused;

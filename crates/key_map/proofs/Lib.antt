@@ -4,3 +4,5 @@ mod Rows
 mod Maps
 mod Searches
 mod Merges
+mod Gathers
+mod Shifts

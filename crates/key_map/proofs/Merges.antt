@@ -1,8 +1,8 @@
 -- How two lists of slots that fit are added up, slot by slot: what is done and what is left have the values of the sums.
-use Rattle.std.proofs.Common.{◌≡◌, ℕ, ◌+◌, ◌<◌, ◌≤◌, List, [], ◌∷◌, ◌++◌, length, nat_eq, nat_lt, cond, Option, Some, None, inl, inr, refl, sym, ap, subst, ◌∙◌, arith}
-use Rattle.std.specs.Prelude.{MatchOption}
+use Rattle.std.proofs.Common.{◌≡◌, ℕ, ◌+◌, ◌<◌, ◌≤◌, List, [], ◌∷◌, ◌++◌, length, take, nat_eq, nat_lt, cond, Option, Some, None, inl, inr, refl, sym, ap, subst, ◌∙◌, arith}
+use Rattle.std.specs.Prelude.{MatchOption, slice_index_or}
 use Rattle.std.proofs.lemmas.Bool.{cases_order, eqb-true, eq-eqb, ne_eqb, lt-ltb, le-ltb}
-use Rattle.std.proofs.lemmas.List.{length_push}
+use Rattle.std.proofs.lemmas.List.{length_push, take_more, take_all}
 use Rattle.monoid_kit.proofs.Products.{only-mul, mul_middle}
 use Rattle.semiring_kit.specs.Semiring.{SemiringOn, IsSemiring, IsGood}
 use Rattle.semiring_kit.specs.Total.{masked}
@@ -209,6 +209,18 @@ module _ {E : Type 0} {r : SemiringOn E} (laws : IsSemiring r) where
   fits-higher low mid high (slot ∷ slots) above fits =
       let below : slot.key < mid = fits.1 in
       (fits.0, omega arith, (fits.2.0, fits-higher (slot.key + 1) mid high slots above fits.2.1))
+
+  pub fits-more : (top : ℕ) (slots : List (Slot E)) (i : ℕ) (slot : Slot E) → i < length slots → slot ≡ slice_index_or slots i slot
+      → FitsSlots r 0 top (take i slots) → top ≤ slot.key → IsGood r slot.elem → FitsSlots r 0 (slot.key + 1) (take (i + 1) slots)
+  fits-more top slots i slot within is fits past good =
+      subst (FitsSlots r 0 (slot.key + 1))
+      (sym (take_more slots i slot within ∙ ap (λ s. take i slots ++ s ∷ []) (sym is)))
+      (fits-push 0 top (take i slots) slot fits (omega arith) past good)
+
+  pub fits-all : (top high : ℕ) (slots : List (Slot E)) (i : ℕ) → length slots ≤ i → top ≤ high → FitsSlots r 0 top (take i slots)
+      → FitsSlots r 0 high slots
+  fits-all top high slots i past within fits =
+      subst (FitsSlots r 0 high) (take_all i slots past) (fits-higher 0 top high (take i slots) within fits)
 
   module _ (high : ℕ) (a b : List (Slot E)) (a_fits : FitsSlots r 0 high a) (b_fits : FitsSlots r 0 high b) where
     sums_are_sound : (k : ℕ) → r.is_sound (r.add (value_in r.zero a k) (value_in r.zero b k))

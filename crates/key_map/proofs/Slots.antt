@@ -1,6 +1,6 @@
 -- Lemmas on lists of slots that fit: their sums by key, and the slots that a row gives.
-use Rattle.std.proofs.Common.{◌≡◌, ℕ, zero, suc, ◌+◌, ◌<◌, ◌≤◌, ◌≢◌, Bool, true, false, List, [], ◌∷◌, ◌++◌, length, nat_eq, cond, Option, Some, None, inl, inr, refl, sym, ap, subst, ◌∙◌, arith}
-use Rattle.std.proofs.lemmas.List.{append-nil}
+use Rattle.std.proofs.Common.{◌≡◌, ℕ, zero, suc, ◌+◌, ◌<◌, ◌≤◌, ◌≢◌, Bool, true, false, List, [], ◌∷◌, ◌++◌, length, nat_eq, cond, set, replicate, Option, Some, None, inl, inr, refl, sym, ap, subst, ◌∙◌, arith}
+use Rattle.std.proofs.lemmas.List.{append-nil, set-set}
 use Rattle.std.specs.Prelude.{slice_index_or}
 use Rattle.std.proofs.lemmas.Bool.{eqb-true, eq-eqb, ne_eqb}
 use Rattle.monoid_kit.specs.Items.{IsIn, AllElements}
@@ -44,6 +44,28 @@ module _ {E : Type 0} where
       ∙ sym (append-nil (slots_from 0 row))
       ∙ sym (slots_from-push 0 row None)
       ∙ ap (λ p. slots_from 0 (row ++ p ∷ [])) (sym is)
+
+  pub slots_from-empty : (low n : ℕ) → slots_from low (replicate {A = Option E} n None) ≡ []
+  slots_from-empty low zero = refl
+  slots_from-empty low (suc n) = slots_from-empty (low + 1) n
+
+  -- a place that is set makes one slot more at most
+  slots_from-set : (low : ℕ) (row : List (Option E)) (key : ℕ) (place : Option E)
+      → length (slots_from low (set row key place)) ≤ length (slots_from low row) + 1
+  slots_from-set low [] key place = omega arith
+  slots_from-set low (None ∷ row) zero None = omega arith
+  slots_from-set low (None ∷ row) zero (Some value) = omega arith
+  slots_from-set low (Some held ∷ row) zero None = omega arith
+  slots_from-set low (Some held ∷ row) zero (Some value) = omega arith
+  slots_from-set low (None ∷ row) (suc key) place = slots_from-set (low + 1) row key place
+  slots_from-set low (Some held ∷ row) (suc key) place =
+      let rest = slots_from-set (low + 1) row key place in omega arith
+
+  pub slots_from-take : (row : List (Option E)) (key : ℕ) (left : Option E) (value : E)
+      → length (slots_from 0 (set (set row key left) key (Some value))) ≤ length (slots_from 0 row) + 1
+  slots_from-take row key left value =
+      subst (λ new. length (slots_from 0 new) ≤ length (slots_from 0 row) + 1) (sym (set-set row key left (Some value)))
+      (slots_from-set 0 row key (Some value))
 
 module _ {E : Type 0} (r : SemiringOn E) where
   pub fits-lower : (low mid high : ℕ) (slots : List (Slot E)) → low ≤ mid → FitsSlots r mid high slots → FitsSlots r low high slots

@@ -4,4 +4,5 @@ pub mod Slots
 pub mod SlotLaws
 pub mod Rows
 pub mod Merging
+pub mod Loose
 pub mod ZeroBand

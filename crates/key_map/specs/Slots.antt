@@ -11,6 +11,10 @@ key_of slot = slot.key
 abbrev pub elem_of : {E : Type 0} → Slot E → E
 elem_of slot = slot.elem
 
+-- the product of a key with its value and of a slot, in this order
+abbrev pub product_of : {E : Type 0} → SemiringOn E → (ℕ → ℕ → ℕ) → ℕ → E → Slot E → Slot E
+product_of r times key elem right = record { key = times key right.key; elem = r.mul elem right.elem }
+
 -- what the product of two slots, in this order, has at key k
 abbrev pub product_at : {E : Type 0} → SemiringOn E → (ℕ → ℕ → ℕ) → Slot E → Slot E → ℕ → E
 product_at r times left right k = masked r (nat_eq (times left.key right.key) k) (r.mul left.elem right.elem)

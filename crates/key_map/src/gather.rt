@@ -2,12 +2,12 @@
 //! They are methods of a trait, since a method of an impl can't call a function
 //! whose bound has an associated type that is `Send`.
 
-ghost use Rattle.std.specs.Prelude.{◌≡◌, ℕ, ◌+◌, ◌<◌, ◌≤◌, length, OnOk};
+ghost use Rattle.std.specs.Prelude.{◌≡◌, ℕ, ◌+◌, ◌<◌, ◌≤◌, length, OnOk, IfOk};
 ghost use Rattle.monoid_kit.specs.Items.{AllElements};
 ghost use Rattle.semiring_kit.specs.Semiring.{SemiringOn, IsGood, weight_bound};
 ghost use Rattle.key_map.specs.Maps.{alone};
-ghost use Rattle.key_map.specs.Slots.{key_of, elem_of, products_at};
-ghost use Rattle.key_map.specs.Rows.{IsGoodRow, IsGathered};
+ghost use Rattle.key_map.specs.Slots.{key_of, elem_of, product_of, products_at};
+ghost use Rattle.key_map.specs.Rows.{IsGoodRow, IsGathered, slots_from};
 
 use crate::slot::Slot;
 use crate::sparse_kit::SparseKit;
@@ -37,8 +37,29 @@ pub(crate) trait Gather: Drop {
         requires key_is_in_row { key < length row.old.items }
         requires row_is_good { IsGoodRow (ring self.now) row.old.items }
         requires elem_is_good { IsGood (ring self.now) elem }
-        ensures { OnOk result
-            (IsGathered (ring self.now) row.old.items row.new.items (alone (ring self.now) key elem)) };
+        ensures gathered { OnOk result
+            (IsGathered (ring self.now) row.old.items row.new.items (alone (ring self.now) key elem)) }
+        ensures few { let before = length (slots_from 0 row.old.items) in
+            OnOk result (length (slots_from 0 row.new.items) ≤ before + 1) };
+
+    // The product of two slots, in this order. It is one step.
+    fn product<L: Ledger>(
+        &self,
+        alloc: Global,
+        key: u32,
+        elem: &Self::Item,
+        right: &Slot<Self::Item>,
+        steps: &mut Steps<L>,
+    ) -> Result<Slot<Self::Item>, AllocError>
+        requires left_is_element { key < size self.now }
+        requires right_is_element { right.now.key < size self.now }
+        requires left_is_good { IsGood (ring self.now) elem.now }
+        requires right_is_good { IsGood (ring self.now) right.now.elem }
+        requires reaches_add_up { let reach = (ring self.now).reach in
+            reach elem.now + reach right.now.elem ≤ weight_bound }
+        ensures product { let product = product_of (ring self.now) (times self.now) key elem.now right.now in
+            IfOk result (λ slot. slot ≡ product) }
+        ensures cost { steps.new ≡ steps.old + 1 };
 
     // Adds the products of the left slot with each of the right slots, in this order.
     // Each is one step.
@@ -60,6 +81,8 @@ pub(crate) trait Gather: Drop {
             AllElements (λ elem. reach left.now.elem + reach elem ≤ weight_bound) elem_of right.now }
         ensures gathered { let added = products_at (ring self.now) (times self.now) left.now right.now in
             OnOk result (IsGathered (ring self.now) row.old.items row.new.items added) }
+        ensures few { let most = length (slots_from 0 row.old.items) + length right.now in
+            OnOk result (length (slots_from 0 row.new.items) ≤ most) }
         ensures cost { steps.new ≤ steps.old + length right.now };
 }
 
@@ -88,6 +111,20 @@ impl<S: Semiring, M: Monoid> Gather for SparseKit<S, M> {
         Ok(())
     }
 
+    fn product<L: Ledger>(
+        &self,
+        alloc: Global,
+        key: u32,
+        elem: &S::Elem,
+        right: &Slot<S::Elem>,
+        steps: &mut Steps<L>,
+    ) -> Result<Slot<S::Elem>, AllocError> {
+        Ok(Slot {
+            key: self.keys.mul(key, right.key),
+            elem: self.kit.mul(alloc, elem, &right.elem, steps)?,
+        })
+    }
+
     fn gather_products<L: Ledger>(
         &self,
         alloc: Global,
@@ -97,9 +134,8 @@ impl<S: Semiring, M: Monoid> Gather for SparseKit<S, M> {
         steps: &mut Steps<L>,
     ) -> Result<(), AllocError> {
         for slot in right {
-            let key = self.keys.mul(left.key, slot.key);
-            let elem = self.kit.mul(alloc, &left.elem, &slot.elem, steps)?;
-            self.gather(alloc, row, key, elem)?;
+            let product = self.product(alloc, left.key, &left.elem, slot, steps)?;
+            self.gather(alloc, row, product.key, product.elem)?;
         }
         Ok(())
     }

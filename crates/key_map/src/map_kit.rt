@@ -72,6 +72,33 @@ pub trait MapKit: Drop {
         ensures kept { let most = kept self.now a.now + kept self.now b.now in
             IfOk result (λ map. kept self.now map ≤ most) };
 
+    /// The map of the sums of two maps that are needed no more.
+    fn sum(&self, alloc: Global, a: Self::Map, b: Self::Map) -> Result<Self::Map, AllocError>
+        requires left_fits { fits self.now a }
+        requires right_fits { fits self.now b }
+        ensures fits { IfOk result (fits self.now) }
+        ensures value { let ring = Self.Kit.ring (kit self.now) in
+            let x = value_at self.now a in
+            let y = value_at self.now b in
+            IfOk result (λ map. SameValues (value_at self.now map) (sums ring x y)) }
+        ensures kept { let most = kept self.now a + kept self.now b in
+            IfOk result (λ map. kept self.now map ≤ most) }
+    {
+        self.add(alloc, &a, &b)
+    }
+
+    /// The same map once more.
+    fn copy(&self, alloc: Global, map: &Self::Map) -> Result<Self::Map, AllocError>
+        requires { fits self.now map.now }
+        ensures fits { IfOk result (fits self.now) }
+        ensures value { let x = value_at self.now map.now in
+            IfOk result (λ copy. SameValues (value_at self.now copy) x) }
+        ensures kept { IfOk result (λ copy. kept self.now copy ≤ kept self.now map.now) }
+    {
+        let none = self.none(alloc)?;
+        self.add(alloc, &none, map)
+    }
+
     /// The convolution: at a key, the sum over all pairs of keys whose product is this key,
     /// of the products of their values, the factors in this order.
     /// It takes at most a step for each pair of kept keys, also where memory is refused.
@@ -94,7 +121,40 @@ pub trait MapKit: Drop {
             let y = value_at self.now b.now in
             IfOk result (λ map.
             SameValues (value_at self.now map) (convolution ring size times x y)) }
+        ensures kept { let most = kept self.now a.now * kept self.now b.now in
+            IfOk result (λ map. kept self.now map ≤ most) }
         ensures cost { steps.new ≤ steps.old + kept self.now a.now * kept self.now b.now };
+
+    /// The convolution of the map that has this value at this key alone with a map, in this order.
+    /// It takes at most a step for each kept key, also where memory is refused.
+    fn shifted<L: Ledger>(
+        &self,
+        alloc: Global,
+        key: u32,
+        elem: &<Self::Kit as Semiring>::Elem,
+        map: &Self::Map,
+        steps: &mut Steps<L>,
+    ) -> Result<Self::Map, AllocError>
+        requires key_is_element { key < Self.Keys.size (keys self.now) }
+        requires elem_is_good { IsGood (Self.Kit.ring (kit self.now)) elem.now }
+        requires fits { fits self.now map.now }
+        requires reaches_add_up { let ring = Self.Kit.ring (kit self.now) in
+            ReachesAddUp ring (alone ring key elem.now) (value_at self.now map.now) }
+        ensures fits { IfOk result (fits self.now) }
+        ensures value { let ring = Self.Kit.ring (kit self.now) in
+            let size = Self.Keys.size (keys self.now) in
+            let times = Self.Keys.mul (keys self.now) in
+            let x = alone ring key elem.now in
+            let y = value_at self.now map.now in
+            IfOk result (λ shifted.
+            SameValues (value_at self.now shifted) (convolution ring size times x y)) }
+        ensures kept { IfOk result (λ shifted. kept self.now shifted ≤ kept self.now map.now) }
+        ensures cost { steps.new ≤ steps.old + kept self.now map.now }
+    {
+        let elem = self.kit().copy(alloc, elem)?;
+        let single = self.single(alloc, key, elem)?;
+        self.convolve(alloc, &single, map, steps)
+    }
 
     /// The value at a key.
     fn get(

@@ -26,7 +26,7 @@ pub(crate) fn slots_of<E: Drop>(
     requires { length row.items < 2 ^ 32 }
     ensures { IfOk result (λ slots. slots.items ≡ slots_from 0 row.items) }
 {
-    let mut slots = Vec::new(alloc);
+    let mut slots = Vec::with_capacity(alloc, row.len())?;
     let mut key = 0;
     for place in row {
         if let Some(elem) = place {

@@ -3,6 +3,7 @@
 
 ghost use Rattle.std.specs.Prelude.{length};
 
+use crate::collect::Collect;
 use crate::gather::Gather;
 use crate::map_kit::MapKit;
 use crate::merge::{Merge, after_key};
@@ -11,6 +12,7 @@ use crate::slot::{Slot, find_slot};
 use monoid_kit::Monoid;
 use semiring_kit::Semiring;
 use std::alloc::{AllocError, Global};
+use std::collections::VecDeque;
 use std::sync::ledger::Ledger;
 use step_count::Steps;
 
@@ -79,6 +81,23 @@ impl<S: Semiring, M: Monoid> MapKit for SparseKit<S, M> {
         Ok(sums)
     }
 
+    fn sum(&self, alloc: Global, a: Self::Map, b: Self::Map) -> Result<Self::Map, AllocError> {
+        let mut sums = Vec::with_capacity(alloc, a.len().saturating_add(b.len()))?;
+        let (mut left, mut right) = (VecDeque::from(a), VecDeque::from(b));
+        while let Some(slot) = self.take_least(alloc, &mut left, &mut right)? {
+            sums.push(slot)?;
+        }
+        Ok(sums)
+    }
+
+    fn copy(&self, alloc: Global, map: &Self::Map) -> Result<Self::Map, AllocError> {
+        let mut slots = Vec::with_capacity(alloc, map.len())?;
+        for slot in map {
+            slots.push(self.copy_slot(alloc, slot)?)?;
+        }
+        Ok(slots)
+    }
+
     fn convolve<L: Ledger>(
         &self,
         alloc: Global,
@@ -91,6 +110,22 @@ impl<S: Semiring, M: Monoid> MapKit for SparseKit<S, M> {
             self.gather_products(alloc, &mut row, left, b, steps)?;
         }
         slots_of(alloc, row)
+    }
+
+    fn shifted<L: Ledger>(
+        &self,
+        alloc: Global,
+        key: u32,
+        elem: &S::Elem,
+        map: &Self::Map,
+        steps: &mut Steps<L>,
+    ) -> Result<Self::Map, AllocError> {
+        let mut slots = Vec::with_capacity(alloc, map.len())?;
+        for slot in map {
+            let product = self.product(alloc, key, elem, slot, steps)?;
+            self.put(alloc, &mut slots, product.key, product.elem)?;
+        }
+        self.collect(alloc, slots)
     }
 
     fn get(&self, alloc: Global, map: &Self::Map, key: u32) -> Result<S::Elem, AllocError> {

@@ -9,8 +9,6 @@ mod law;
 mod modular;
 mod monoid;
 mod table;
-#[cfg(test)]
-mod tests;
 
 pub use capped_sum::{CappedSum, GREATEST_BOUND};
 pub use checks::{TableFault, check_table};

@@ -5,8 +5,6 @@
 mod component;
 mod keys;
 mod product;
-#[cfg(test)]
-mod tests;
 
 pub use component::Component;
 pub use keys::{TooLarge, product_of};

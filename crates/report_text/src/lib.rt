@@ -14,6 +14,3 @@ pub use answer::{Answer, COUNT_CAP, report};
 pub use candidate::push_candidate_line;
 pub use fault::fault_line;
 pub use refusal::Refusal;
-
-#[cfg(test)]
-mod tests;

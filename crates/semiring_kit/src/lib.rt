@@ -9,8 +9,6 @@ mod count;
 mod max_plus;
 mod min_plus;
 mod semiring;
-#[cfg(test)]
-mod tests;
 mod truth;
 
 pub use aggregates::sums_are_aggregates;

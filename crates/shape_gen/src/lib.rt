@@ -6,8 +6,6 @@
 mod counting;
 mod mark;
 mod shape;
-#[cfg(test)]
-mod tests;
 
 pub use counting::{EXTENT_CAP, Extent, sizes};
 pub use mark::Mark;

@@ -10,6 +10,3 @@ mod rules;
 
 pub use fault::{Limit, RuleFault, SinglePart};
 pub use rules::rule_fault;
-
-#[cfg(test)]
-mod tests;

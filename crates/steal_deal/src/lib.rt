@@ -7,8 +7,6 @@ mod blocks;
 mod dealing;
 mod hand;
 mod partition;
-#[cfg(test)]
-mod tests;
 mod view;
 
 pub use blocks::Blocks;

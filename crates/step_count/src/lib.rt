@@ -3,7 +3,5 @@
 #![tactic(auto)]
 
 mod steps;
-#[cfg(test)]
-mod tests;
 
 pub use steps::Steps;

@@ -12,6 +12,3 @@ mod tests_of;
 
 pub use negatives::{Negative, first_negative};
 pub use tests_of::{Tests, ValueFault, prepare_tests};
-
-#[cfg(test)]
-mod tests;

@@ -8,6 +8,3 @@ mod witness;
 
 pub use laws::{first_of_a_list, orders_are_rankings};
 pub use witness::{Witness, joined, shortlex, shortlex_joined};
-
-#[cfg(test)]
-mod tests;

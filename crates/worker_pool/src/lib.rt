@@ -11,8 +11,6 @@ mod pocket;
 mod slots;
 mod solving;
 mod stepping;
-#[cfg(test)]
-mod tests;
 mod turn;
 mod working;
 

@@ -1,4 +1,4 @@
-use Rattle.std.proofs.Common.{◌≡◌, ℕ, ◌+◌, ◌≤◌, length, arith, refl, ap, subst, sym, ◌∙◌}
+use Rattle.std.proofs.Common.{◌≡◌, ℕ, ◌+◌, ◌*◌, ◌≤◌, length, arith, refl, ap, subst, sym, ◌∙◌}
 use Rattle.std.proofs.Math.Nat.{mul-le-mul_left}
 use Rattle.std.proofs.lemmas.Result.{IfOk-weaker}
 use Rattle.monoid_kit.specs.Items.{IsIn}
@@ -6,7 +6,7 @@ use Rattle.monoid_kit.proofs.Items.{IsIn-read}
 use Rattle.key_map.specs.Convolution.{convolution}
 use Rattle.key_map.specs.Slots.{value_in, products_at, FitsSlots}
 use Rattle.key_map.specs.Rows.{slots_from}
-use Rattle.key_map.proofs.Slots.{fits-keys, fits-good}
+use Rattle.key_map.proofs.Slots.{fits-keys, fits-good, slots_from-empty}
 use Rattle.key_map.proofs.Rows.{gathered-none, gathered-more, gathered-all}
 use Rattle.key_map.proofs.Maps.{empty-length, empty-IsGoodRow, keys-below, given-good, reaches-at_slots, products-are_sound, gathered-convolution, convolution-is_sound, slots-fit, slots-value}
 use Rattle.key_map.proofs.sparse_kit.SparseKitMapKit.convolve.Goals as goal
@@ -43,6 +43,7 @@ loop-left-init g c =
     let empty = rw c.size.ensures at c.in_ok-row.ensures in
     record {
       gathered = gathered-none laws row (empty-IsGoodRow ring size row empty);
+      few = let none = ap (λ r. length (slots_from 0 r)) empty ∙ ap length (slots_from-empty 0 size) in omega (arith, none);
       cost = omega arith;
     }
 
@@ -68,6 +69,11 @@ loop-left-preserved g c =
           (subst (IsIn left) c.deref-left-items.ensures.value left_in) k)
           c.loop-left-test.true c.left-item.is (λ k. refl)
           c.loop-left.invariant.gathered products;
+      few =
+          let before = c.loop-left.invariant.few in
+          let more = c.in_ok-gather_products.ensures.few in
+          let long = ap length c.deref.ensures.value in
+          omega arith;
       cost =
           let before = c.loop-left.invariant.cost in
           let more = c.in_ok-gather_products.ensures.cost in
@@ -120,6 +126,13 @@ returns g c =
           (λ slots is k. ap (λ items. value_in ring.zero items k) is
           ∙ slots-value laws size row new added empty convolved k
           (convolution-is_sound laws size a b c.requires.left_fits c.requires.right_fits times k)) c.slots_of.ensures;
+      kept =
+          let before = c.loop-left.invariant.few in
+          let all = ap length c.deref-left-items.ensures.value in
+          let end = c.loop-left.auto.left-index-end in
+          let within : i ≤ length a = omega arith in
+          IfOk-weaker c.slots_of.result (λ slots. slots.items ≡ slots_from 0 new) (λ slots. length slots.items ≤ length a * length b)
+          (λ slots is. let count = ap length is in omega (arith, count, before, mul-le-mul_left (length b) within)) c.slots_of.ensures;
       cost =
           let before = c.loop-left.invariant.cost in
           let all = ap length c.deref-left-items.ensures.value in

@@ -1,0 +1,5 @@
+use Rattle.algebra_tests.proofs.Worked.{IsSmall}
+use Rattle.algebra_tests.proofs.best_lists.sublists.Given as goal
+
+abbrev pub invariant-rows : goal.invariant-rows
+invariant-rows g l = IsSmall l.kit.greatest l.kit.k l.weight-index l.product

@@ -1,6 +1,0 @@
-use Rattle.semiring_kit.specs.Semiring.{IsGood}
-use Rattle.best_k.specs.Best.{best_of}
-use Rattle.best_k.proofs.tests.sum_of_candidates.Given as goal
-
-abbrev pub invariant-candidates : goal.invariant-candidates
-invariant-candidates g l = IsGood (best_of l.kit.greatest l.kit.k) l.sum

@@ -1,4 +1,0 @@
-use Rattle.fuse_core.proofs.tests.assert_count.Given as goal
-
-abbrev pub ghosts-sums : goal.ghosts-sums
-ghosts-sums g a = record { name = a.blank.name; parts = a.blank.parts }

@@ -1,5 +1,0 @@
-use Rattle.gta_meaning.specs.InRange.{IsInRange}
-use Rattle.gta_meaning.proofs.tests.candidate_of.Given as goal
-
-abbrev pub invariant-loop-row : goal.invariant-loop-row
-invariant-loop-row l = IsInRange l.row 2 l.marks.items

@@ -1,7 +1,0 @@
-use Rattle.std.proofs.Common.{◌<◌}
-use Rattle.std.specs.List.{All}
-use Rattle.shape_gen.specs.declared.mark.Mark.{Mark}
-use Rattle.report_text.proofs.tests.entry_of.Given as goal
-
-abbrev pub invariant-rows : goal.invariant-rows
-invariant-rows l = All (λ (mark : Mark). mark.label < 2) l.marks.items

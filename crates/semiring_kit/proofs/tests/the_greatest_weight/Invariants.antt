@@ -1,4 +1,0 @@
-use Rattle.semiring_kit.proofs.tests.the_greatest_weight.Given as goal
-
-abbrev pub ghosts-combined : goal.ghosts-combined
-ghosts-combined g a = record { name = a.blank.name; parts = a.blank.parts }

@@ -1,5 +1,0 @@
-use Rattle.steal_deal.specs.Hands.{IsDealtWith}
-use Rattle.steal_deal.proofs.tests.pop_all.Given as goal
-
-abbrev pub invariant-loop : goal.invariant-loop
-invariant-loop l = IsDealtWith l.blocks l.hand

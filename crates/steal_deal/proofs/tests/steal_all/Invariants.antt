@@ -1,8 +1,0 @@
-use Rattle.steal_deal.specs.Hands.{IsDealtWith}
-use Rattle.steal_deal.proofs.tests.steal_all.Given as goal
-
-abbrev pub invariant-loop : goal.invariant-loop
-invariant-loop l = IsDealtWith l.blocks l.hand
-
-abbrev pub invariant-loop-from : goal.invariant-loop-from
-invariant-loop-from l = IsDealtWith l.blocks l.hand

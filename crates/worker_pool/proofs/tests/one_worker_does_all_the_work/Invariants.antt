@@ -1,4 +1,0 @@
-use Rattle.worker_pool.proofs.tests.one_worker_does_all_the_work.Given as goal
-
-abbrev pub ghosts-worked : goal.ghosts-worked
-ghosts-worked g a = record { name = a.blank.name; parts = a.blank.parts }

@@ -1,7 +1,0 @@
-use Rattle.std.proofs.Common.{◌≡◌, ◌-◌}
-use Rattle.std.specs.List.{All}
-use Rattle.worker_pool.specs.Walk.{IsGood}
-use Rattle.worker_pool.proofs.tests.pieces_at.Given as goal
-
-abbrev pub invariant-loop-lo : goal.invariant-loop-lo
-invariant-loop-lo l = All (IsGood 8 (λ lo hi value. value ≡ hi - lo)) l.pieces.items

@@ -1,4 +1,0 @@
-use Rattle.worker_pool.proofs.tests.two_workers_run_beside_each_other.Given as goal
-
-abbrev pub ghosts-solved : goal.ghosts-solved
-ghosts-solved g a = record { name = a.blank.name; parts = a.blank.parts }
