@@ -1,6 +1,7 @@
 //! The product of a fold: what a candidate's marks pick, multiplied in a table.
 
 ghost use Rattle.std.specs.Prelude.{◌≡◌, ℕ, ◌<◌, All, map};
+ghost use Rattle.monoid_kit.specs.Table.{table_mul};
 ghost use Rattle.monoid_kit.specs.TableOf.{plain_table};
 ghost use Rattle.gta_checked.specs.Plain.{plain_pick};
 ghost use Rattle.gta_checked.specs.Within.{IsPickWithin};
@@ -38,7 +39,16 @@ pub(crate) fn folded(rows: &Rows, monoid: &TableMonoid, picks: &[Pick], marks: &
     let mut product = monoid.unit();
     for mark in marks {
         let element = picked(rows, monoid.unit(), picks, mark.row, mark.label);
-        product = monoid.mul(product, element);
+        product = with_factor(monoid, product, element);
     }
     product
+}
+
+/// A product with one factor more on its right.
+fn with_factor(monoid: &TableMonoid, product: u32, factor: u32) -> u32
+    requires product_is_element { product < (plain_table monoid.now).size }
+    requires factor_is_element { factor < (plain_table monoid.now).size }
+    ensures { result ≡ table_mul (plain_table monoid.now) product factor }
+{
+    monoid.mul(product, factor)
 }

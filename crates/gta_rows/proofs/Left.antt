@@ -4,7 +4,7 @@ use Rattle.std.proofs.Common.{Some, refl, sym, ap, ◌∙◌, arith, Bor, inl}
 use Rattle.std.proofs.lemmas.List.{length-map}
 use Rattle.csv.specs.Machine.{Read, next_record}
 use Rattle.csv.specs.Reading.{Reached, ReadRecord, default_config, reader_state, records}
-use Rattle.csv.specs.Reading.{records_from, strip_bom, took_first}
+use Rattle.csv.specs.Reading.{is_flexible, records_from, strip_bom, took_first}
 use Rattle.csv.specs.declared.parser.State.{State}
 use Rattle.csv.specs.declared.parser.State.TheVariants as st
 use Rattle.csv.specs.declared.reader.Reader.{Reader}
@@ -33,9 +33,9 @@ unfolding records_after
 left_known reader s bytes at known = rw (at, known) refl
 
 pub found_one : (old new : Reader Bytes) (fields : Record) → IsReading old → took_first new ≡ true
-    → ReadRecord known_bytes old new true fields → Found old new fields
+    → is_flexible new ≡ is_flexible old → ReadRecord known_bytes old new true fields → Found old new fields
 unfolding Reached
-found_one old new fields reading first read =
+found_one old new fields reading first as_flexible read =
     let more = rows-more known_bytes old new fields default_config (reader_state old) reading.bytes reading.bytes []
     reading.config reading.known (refl, refl) read in
     let p : Read = more.2.0 in
@@ -48,6 +48,7 @@ found_one old new fields reading first read =
     record {
       reading = record {
         trim = read.3 ∙ reading.trim;
+        flexible = as_flexible ∙ reading.flexible;
         ready = inl first;
         config = read.2 ∙ reading.config;
         bytes = p.2;

@@ -1,8 +1,8 @@
 -- What a reader of csv has left of a table, between two records.
-use Rattle.std.specs.Prelude.{◌≡◌, ℕ, ◌+◌, ◌≤◌, false, List, [], length, map, Option, Some, None}
+use Rattle.std.specs.Prelude.{◌≡◌, ℕ, ◌+◌, ◌≤◌, true, false, List, [], length, map, Option, Some, None}
 use Rattle.std.specs.Borrow.{Bor}
 use Rattle.csv.specs.Machine.{ends_at_end}
-use Rattle.csv.specs.Reading.{Ready, default_config, reader_config, reader_state, reader_trim}
+use Rattle.csv.specs.Reading.{Ready, default_config, is_flexible, reader_config, reader_state, reader_trim}
 use Rattle.csv.specs.Reading.{records_from, source_of}
 use Rattle.csv.specs.declared.parser.State.{State}
 use Rattle.csv.specs.declared.reader.Reader.{Reader}
@@ -22,9 +22,10 @@ records_after state (Some bytes) =
 abbrev pub records_left : Reader (Bor (List ℕ)) → List Record
 records_left reader = records_after (reader_state reader) (bytes_left reader)
 
--- the reader stands between two records, and reads them as they are
+-- the reader stands between two records, and reads them as they are, each with as many fields as it has
 pub record IsReading (reader : Reader (Bor (List ℕ))) : Type 0 where
   pub trim : reader_trim reader ≡ trims.None
+  pub flexible : is_flexible reader ≡ true
   pub ready : Ready reader
   pub config : reader_config reader ≡ default_config
   pub bytes : List ℕ

@@ -22,8 +22,8 @@ pub enum RowsFault {
     Field { row: u32, column: Name },
     /// There are more rows than a table may have.
     TooMany,
-    /// Memory was wanting. An error of `csv` is answered so too; over bytes in memory only want of
-    /// memory is expected of it.
+    /// Memory was wanting. A fault of the reader under `csv` is answered so too; bytes in memory
+    /// have none.
     Memory,
 }
 

@@ -2,7 +2,8 @@
 
 ghost use Rattle.std.specs.Prelude.{◌≡◌, ◌∷◌, [], ◌+◌, ◌≤◌, true, false, IfOk, IfErr, length, map};
 ghost use Rattle.gta_text.specs.declared.lines.TheConstants.{INPUT_BOUND};
-ghost use Rattle.csv.specs.Reading.{default_config, records, strip_bom};
+ghost use Rattle.csv.specs.Reading.{default_config, has_failed, records, strip_bom};
+ghost use Rattle.csv.specs.Reading.{builder_config, builder_names_headers, builder_is_flexible, builder_trim};
 ghost use Rattle.gta_rows.specs.Fields.{trimmed_record, trimmed_fields};
 ghost use Rattle.gta_rows.specs.Reading.{IsReading, records_left};
 ghost use Rattle.gta_rows.specs.declared.fault.RowsFault.TheVariants.{Memory};
@@ -19,13 +20,22 @@ pub(crate) fn reader_of<'a>(alloc: Global, bytes: &'a [u8]) -> Reader<&'a [u8]>
     ensures records { records_left result
         ≡ map trimmed_record (records default_config (strip_bom bytes.now)) }
 {
-    ReaderBuilder::new()
-        .has_headers(false)
-        .flexible(true)
-        .from_reader(alloc, bytes)
+    all_records(&mut ReaderBuilder::new()).from_reader(alloc, bytes)
 }
 
-/// Reads the next record, if there is one. After an error or the end the reader is used no more.
+/// Every record is one of the table, and has as many fields as stand in it.
+fn all_records(builder: &mut ReaderBuilder) -> &mut ReaderBuilder
+    ensures config { builder_config result.now ≡ builder_config builder.old }
+    ensures no_header { builder_names_headers result.now ≡ false }
+    ensures flexible { builder_is_flexible result.now ≡ true }
+    ensures trim { builder_trim result.now ≡ builder_trim builder.old }
+{
+    builder.has_headers(false).flexible(true)
+}
+
+/// Reads the next record, if there is one. It fails where csv gives no more records, for the reader
+/// of its bytes or for memory; bytes in memory are read with no fault, so that memory is wanting.
+/// After an error or the end the reader is used no more.
 pub(crate) fn next_record(
     reader: &mut Reader<&[u8]>,
     row: &mut ByteRecord,
@@ -37,7 +47,7 @@ pub(crate) fn next_record(
     ensures narrow { IfOk result (λ found. found ≡ true
         → length (trimmed_fields row.new) ≤ INPUT_BOUND + 1) }
     ensures end { IfOk result (λ found. found ≡ false → records_left reader.old ≡ []) }
-    ensures memory { IfErr result (λ fault. fault ≡ Memory) }
+    ensures memory { IfErr result (λ fault. (fault ≡ Memory) × (has_failed reader.new ≡ true)) }
 {
     match reader.read_byte_record(row) {
         Ok(found) => return Ok(found),

@@ -1,12 +1,14 @@
 //! The parts of a specification as types, and the grammar of its text. specs/Parts.antt has the parts
 //! with lists in place of vectors. The grammar of a line is in specs/Grammar.antt, over the symbols
 //! of specs/Symbols.antt; specs/SpecText.antt says which specification a text is, and
-//! specs/WellFormed.antt which specifications there are.
+//! specs/WellFormed.antt which specifications there are. src/law.rt has the limits as numbers.
 #![tactic(auto)]
 
+mod law;
 mod limits;
 mod parts;
 
+pub use law::{declaration_limits, part_limits};
 pub use limits::{
     ATOM_LIMIT, BOUND_LIMIT, CASE_LIMIT, COLUMN_LIMIT, ELEMENT_LIMIT, FACTOR_LIMIT, HEADER_LIMIT,
     KEEP_LIMIT, LABEL_LIMIT, MEASURE_LIMIT, MODULUS_LIMIT, NAME_LIMIT, ROW_LIMIT, TABLE_LIMIT,

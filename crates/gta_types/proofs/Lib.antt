@@ -12,3 +12,4 @@ pub mod Accepted
 pub mod Whole
 pub mod Joined
 pub mod Ends
+pub mod ResolvesEach

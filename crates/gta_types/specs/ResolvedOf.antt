@@ -1,12 +1,14 @@
 -- The one specification that another is resolved to.
-use Rattle.std.specs.Prelude.{◌≡◌, List, [], ◌∷◌, map}
+use Rattle.std.specs.Prelude.{◌≡◌, List, [], ◌∷◌, None, map}
 use Rattle.std.specs.List.{flat_map}
 use Rattle.std.proofs.Common.{refl}
 use Rattle.shape_gen.specs.declared.shape.Shape.TheVariants.{Sublists}
 use Rattle.gta_checked.specs.declared.resolved.Goal.TheVariants.{Count}
 use Rattle.gta_checked.specs.Plain.{PlainChecked}
 use Rattle.gta_spec.specs.Parts.{SpecTree}
+use Rattle.gta_spec.specs.WellFormed.{IsWellFormed}
 use Rattle.spec_tables.specs.Tables.{tables_in, named_table}
+use Rattle.gta_types.specs.Faults.{check_fault}
 use Rattle.gta_types.specs.Resolved.{IsResolved, column_items, environment, goals_of, measures_of}
 use Rattle.gta_types.specs.Resolved.{shapes_of, tests_of}
 
@@ -29,6 +31,15 @@ resolved_of spec =
       shape = first_or Sublists (flat_map (λ part. shapes_of part.kind) spec.parts);
       goal = first_or Count (flat_map (λ part. goals_of env part.kind) spec.parts);
     }
+
+-- it is the resolved specification of each well-formed one without a fault
+abbrev pub ResolvesEach : Type 0
+ResolvesEach = (spec : SpecTree) → IsWellFormed spec → check_fault spec ≡ None
+    → IsResolved spec (resolved_of spec)
+
+-- no other specification is the resolved one
+abbrev pub ResolvesOnce : Type 0
+ResolvesOnce = (spec : SpecTree) (checked : PlainChecked) → IsResolved spec checked → checked ≡ resolved_of spec
 
 pub resolved-is : {spec : SpecTree} {checked : PlainChecked} → IsResolved spec checked → checked ≡ resolved_of spec
 unfolding resolved_of

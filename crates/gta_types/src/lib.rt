@@ -10,6 +10,7 @@ mod fault;
 mod gathering;
 mod index;
 mod joining;
+mod law;
 mod lists;
 mod names;
 mod naming;
@@ -18,3 +19,4 @@ mod uses;
 
 pub use checking::check;
 pub use fault::CheckFault;
+pub use law::resolving_is_resolved_of;

@@ -41,17 +41,11 @@ module _ (t : PlainTable) where
     right_product : (c : ℕ) → c < t.size → get_or by_a (get_or by_b c 0) 0 ≡ table_mul t a (table_mul t b c)
     right_product c c_in = a_row (get_or by_b c 0) (b_elements c c_in) ∙ ap (table_mul t a) (b_row c c_in)
 
-    pub is_not_associative-unlike : (c : ℕ) → c < t.size → (get_or by_ab c 0 ≡ get_or by_a (get_or by_b c 0) 0 → ⊥)
-        → is_not_associative t a b c ≡ true
-    is_not_associative-unlike c c_in unlike =
-        changed-test (table_mul t (table_mul t a b) c) (table_mul t a (table_mul t b c))
-        (λ same. unlike (left_product c c_in ∙ same ∙ sym (right_product c c_in)))
-
-    pub is_not_associative-alike : (c : ℕ) → c < t.size → get_or by_ab c 0 ≡ get_or by_a (get_or by_b c 0) 0
-        → is_not_associative t a b c ≡ false
-    is_not_associative-alike c c_in alike =
-        is-test (table_mul t (table_mul t a b) c) (table_mul t a (table_mul t b c))
-        (sym (left_product c c_in) ∙ alike ∙ right_product c c_in)
+    pub is_not_associative-rows : (c : ℕ) → c < t.size
+        → is_not_associative t a b c ≡ not (eqb (get_or by_ab c 0) (get_or by_a (get_or by_b c 0) 0))
+    is_not_associative-rows c c_in =
+        ap (λ product. not (eqb product (table_mul t a (table_mul t b c)))) (sym (left_product c c_in))
+        ∙ ap (λ product. not (eqb (get_or by_ab c 0) product)) (sym (right_product c c_in))
 
 module _ (t : PlainTable) (table : IsTable t) where
   pub table_mul-is_element : (a b : ℕ) → a < t.size → b < t.size → table_mul t a b < t.size

@@ -1,7 +1,7 @@
 //! A table is looked at for the laws of a monoid. The first law that one breaks is in
 //! specs/FirstBad.antt.
 
-ghost use Rattle.std.specs.Prelude.{◌≡◌, ℕ, ◌<◌, ◌↔◌, None, length, slice_index_or, option_map};
+ghost use Rattle.std.specs.Prelude.{◌≡◌, ◌==◌, ℕ, ◌<◌, ◌↔◌, not, None, length, slice_index_or, option_map};
 ghost use Rattle.std.specs.Prelude.{IfOk, IfErr, OnOk};
 ghost use Rattle.std.specs.List.{find};
 ghost use Rattle.monoid_kit.specs.FirstBad.{elements, unit_fails, is_not_associative, first_bad};
@@ -103,11 +103,22 @@ fn last_factor(table: &RawTable, a: u32, b: u32) -> Option<u32>
     let by_b = row(table, b);
     let by_ab = row(table, by_a[b as usize]);
     for c in 0..table.size {
-        if by_ab[c as usize] != by_a[by_b[c as usize] as usize] {
+        if are_unlike(by_ab, by_a, by_b, c) {
             return Some(c);
         }
     }
     None
+}
+
+/// Whether (a b) c isn't a (b c), where the rows are those of a b, a and b.
+fn are_unlike(by_ab: &[u32], by_a: &[u32], by_b: &[u32], c: u32) -> bool
+    requires in_left { c < length by_ab.now }
+    requires in_right { c < length by_b.now }
+    requires is_factor { slice_index_or by_b.now c 0 < length by_a.now }
+    ensures { result ≡ not
+        (slice_index_or by_ab.now c 0 == slice_index_or by_a.now (slice_index_or by_b.now c 0) 0) }
+{
+    by_ab[c as usize] != by_a[by_b[c as usize] as usize]
 }
 
 /// The products with a left factor, by the right one.

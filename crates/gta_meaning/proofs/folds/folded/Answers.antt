@@ -8,15 +8,15 @@ use Rattle.gta_meaning.specs.Folds.{folded}
 use Rattle.gta_meaning.proofs.Products.{picked-is_element, folded-is_element, folded-more}
 use Rattle.gta_meaning.proofs.folds.folded.Goals as goal
 
-pub mul-product-requires-clause-left_is_element : goal.mul-product-requires-clause-left_is_element
-mul-product-requires-clause-left_is_element c =
+pub with_factor-product-requires-clause-product_is_element : goal.with_factor-product-requires-clause-product_is_element
+with_factor-product-requires-clause-product_is_element c =
     let w = c.requires.within in
     subst (λ product. product < c.args.monoid.now.size) (sym c.loop-mark.invariant)
     (folded-is_element (plain_rows c.args.rows.now) c.args.rows.now.columns w.0 (plain_table c.args.monoid.now)
     c.args.monoid.now.lawful (map plain_pick c.args.picks.now) w.1 (take c.loop-mark.mark-index c.args.marks.now))
 
-pub mul-product-requires-clause-right_is_element : goal.mul-product-requires-clause-right_is_element
-mul-product-requires-clause-right_is_element c =
+pub with_factor-product-requires-clause-factor_is_element : goal.with_factor-product-requires-clause-factor_is_element
+with_factor-product-requires-clause-factor_is_element c =
     let w = c.requires.within in
     let m = get_or c.args.marks.now c.loop-mark.mark-index (mark 0 0) in
     let same = rw c.unit.ensures at c.picked-element.ensures in
@@ -26,12 +26,11 @@ mul-product-requires-clause-right_is_element c =
 
 pub loop-mark-preserved : goal.loop-mark-preserved
 loop-mark-preserved c =
-    let w = c.requires.within in
     let rows = plain_rows c.args.rows.now in
     let table = plain_table c.args.monoid.now in
     let picks = map plain_pick c.args.picks.now in
     let same = rw c.unit.ensures at c.picked-element.ensures in
-    c.mul-product.ensures
+    c.with_factor-product.ensures
     ∙ ap (λ product. table_mul table product c.picked-element.result) c.loop-mark.invariant
     ∙ ap (table_mul table (folded rows table picks (take c.loop-mark.mark-index c.args.marks.now))) same
     ∙ sym (folded-more rows table picks c.args.marks.now c.loop-mark.mark-index (mark 0 0) c.loop-mark-test.true)

@@ -7,12 +7,12 @@ use Rattle.gta_rows.proofs.reading.reader_of.Goals as goal
 pub returns-clause-reading : goal.returns-clause-reading
 returns-clause-reading c =
     let made = c.from_reader.ensures in
-    let named = c.has_headers.ensures in
-    let flexed = c.flexible.ensures in
+    let settings = c.all_records.ensures in
     record {
-      trim = rw (flexed, named) at made.trim ∙ c.new.ensures.trim;
-      ready = inr (inr (rw (flexed, named) at made.has_headers, made.headers));
-      config = rw (flexed, named) at made.config ∙ c.new.ensures.config;
+      trim = made.trim ∙ settings.trim ∙ c.new.ensures.trim;
+      flexible = made.flexible ∙ settings.flexible;
+      ready = inr (inr (made.has_headers ∙ settings.no_header, made.headers));
+      config = made.config ∙ settings.config ∙ c.new.ensures.config;
       bytes = strip_bom c.args.bytes.now;
       known = made.source;
       few = omega (arith, strip_shorter c.args.bytes.now, c.requires);
