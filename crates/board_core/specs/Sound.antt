@@ -98,3 +98,8 @@ module _ {W : Type 0} where
     abbrev pub EveryBoardIsSound : Type 0
     EveryBoardIsSound = (rows room : ℕ) (calls : List (Call W)) (b : PlainBoard W)
         → Each Brings calls → Lead (empty rows room) calls b → IsSoundFor b
+
+    -- whatever calls lead from a sound board with standing values, the board after them is one too
+    abbrev pub EveryCallKeeps : Type 0
+    EveryCallKeeps = (b : PlainBoard W) (calls : List (Call W)) (d : PlainBoard W)
+        → IsSoundFor b → Each Brings calls → Lead b calls d → IsSoundFor d

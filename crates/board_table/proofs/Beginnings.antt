@@ -1,10 +1,11 @@
 -- Logs that begin with one another, a log that gains an entry, and lists of views that gain one.
-use Rattle.std.proofs.Common.{◌≡◌, ◌≢◌, ℕ, zero, suc, ◌+◌, ◌<◌, ◌≤◌, ◌==◌, ◌⊎◌, inl, inr, ⊎_elim, Bool, true, false, cond, List, [], ◌∷◌, ◌++◌, length, ap, sym, refl, ◌∙◌, length-append, append_assoc, append-nil, eq-eqb, ne_eqb, arith}
+use Rattle.std.proofs.Common.{◌≡◌, ◌≢◌, ℕ, zero, suc, ◌+◌, ◌<◌, ◌≤◌, ◌==◌, ◌⊎◌, inl, inr, ⊎_elim, Bool, true, false, cond, List, [], ◌∷◌, ◌++◌, length, ap, sym, refl, subst, ◌∙◌, length-append, append_assoc, append-nil, eq-eqb, ne_eqb, arith}
 use Rattle.std.specs.Prelude.{filter}
 use Rattle.std.proofs.lemmas.List.Elements.{filter-append}
 use mathlib.Core.Option.{some, some-injective, some-ne-none}
 use lib.ListN.{get_elem?}
 use Rattle.board_core.specs.declared.event.Logged.{Logged}
+use Rattle.board_core.specs.Ordered.{Each}
 use Rattle.board_core.specs.Replay.{entries_of, claims_of}
 use Rattle.board_core.proofs.LogLemmas.{claims_other}
 use Rattle.board_table.specs.Views.{StartsWith}
@@ -83,6 +84,20 @@ module _ (who : ℕ) (seen log : List Logged) (grows : Grows who seen log) where
       (λ same. ap (claims_of n) same)
       (λ more. ap (claims_of n) more.2 ∙ claims_other n seen more.0 (λ own. other (sym own ∙ more.1)))
       grows
+
+each_and_one : (bound : ℕ) (es : List Logged) (e : Logged) → Each (λ x. x.who < bound) es → e.who < bound → Each (λ x. x.who < bound) (es ++ e ∷ [])
+each_and_one bound [] e all one = (one, tt)
+each_and_one bound (x ∷ xs) e all one = (all.0, each_and_one bound xs e all.1 one)
+
+-- a history of callers gains an entry of a caller
+pub grows_of_callers : (who bound : ℕ) (seen log : List Logged) → Grows who seen log → who < bound → Each (λ x. x.who < bound) seen
+    → Each (λ x. x.who < bound) log
+grows_of_callers who bound seen log grows caller all =
+    let P : List Logged → Type 0 = λ es. Each (λ x. x.who < bound) es in
+    ⊎_elim
+    (λ same. subst P (sym same) all)
+    (λ more. subst P (sym more.2) (each_and_one bound seen more.0 all (let own = more.1 in omega arith)))
+    grows
 
 module _ {A : Type 0} where
   abbrev rest_of : List A → List A

@@ -177,6 +177,7 @@ module _ {F W : Type 0} where
           slots = refl;
           log = [];
           legal = tt;
+          of_callers = tt;
           owner = λ n. 0;
           holder = None;
           turn = record {

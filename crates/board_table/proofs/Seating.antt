@@ -71,6 +71,7 @@ module _ {F W : Type 0} (rows : F → ℕ) (stands : F → ℕ → ℕ → W →
       slots = rule.slots;
       log = rule.log;
       legal = rule.legal;
+      of_callers = rule.of_callers;
       owner = owner;
       holder = rule.holder;
       turn = turn_moved rows stands key t rule.log t.words (set t.views id left ++ right ∷ []) refl
@@ -192,6 +193,7 @@ module _ {F W : Type 0} (rows : F → ℕ) (stands : F → ℕ → ℕ → W →
         slots = rule.slots;
         log = rule.log;
         legal = rule.legal;
+        of_callers = rule.of_callers;
         owner = rule.owner;
         holder = rule.holder;
         turn = turn_moved rows stands key t rule.log t.words views_met refl

@@ -1,5 +1,5 @@
 -- Each step on the turn keeps the Board rule: a try that wins or misses, and the step that gives the turn up.
-use Rattle.std.proofs.Common.{◌≡◌, ◌≢◌, ℕ, ◌+◌, ◌≤◌, ◌==◌, inl, inr, ⊎_elim, Bool, true, false, List, [], ◌∷◌, length, slice_index, set, ap, sym, refl, subst, ◌∙◌, length-set, get_or-set_same, arith}
+use Rattle.std.proofs.Common.{◌≡◌, ◌≢◌, ℕ, ◌+◌, ◌<◌, ◌≤◌, ◌==◌, inl, inr, ⊎_elim, Bool, true, false, List, [], ◌∷◌, length, slice_index, set, ap, sym, refl, subst, ◌∙◌, length-set, get_or-set_same, arith}
 use Rattle.std.specs.Prelude.{Option, Some, None}
 use mathlib.Core.Option.{some, none, some-injective}
 use lib.ListN.{get_elem?}
@@ -20,7 +20,7 @@ use Rattle.board_table.specs.Views.{StartsWith, winner, loser, done}
 use Rattle.board_table.specs.Rule.{Slot, TurnTable, terms_of, IsAt, PlaceFits, ViewFits, IsBoardFor, IsFree, IsHeld, TurnIs, BoardRule}
 use Rattle.board_table.specs.Steps.{Finds, tries, frees}
 use Rattle.board_table.specs.Changes.{Grows}
-use Rattle.board_table.proofs.Beginnings.{at_below, starts_refl, starts_from, starts_trans, starts_length, grows_starts, grows_entries, grows_claims}
+use Rattle.board_table.proofs.Beginnings.{at_below, starts_refl, starts_from, starts_trans, starts_length, grows_starts, grows_entries, grows_claims, grows_of_callers}
 
 abbrev place_in : Option ℕ → ℕ
 place_in None = 0
@@ -118,6 +118,7 @@ module _ {F : Type 0} where
         slots = rule.slots;
         log = rule.log;
         legal = rule.legal;
+        of_callers = rule.of_callers;
         owner = rule.owner;
         holder = rule.holder;
         turn = turn_moved t rule.log words (set t.views id (view.Seat q)) same
@@ -179,9 +180,9 @@ module _ {F : Type 0} where
       }
 
       try_wins : (t : TurnTable F W) (st : Step (Slot W)) (log : List Logged) (owner : ℕ → ℕ) → length t.words ≡ 1 → length t.homes ≡ 1
-          → IsLegal (rows key.plan.value) key.room log → IsFree rows stands terms log t
+          → IsLegal (rows key.plan.value) key.room log → Each (λ e. e.who < key.callers) log → IsFree rows stands terms log t
           → ((j : ℕ) (w : View F) → IsAt t j w → ViewFits terms owner None log j w) → IsAt t id (view.Seat p) → Goal t st
-      try_wins t st log owner wide single legal free each at =
+      try_wins t st log owner wide single legal of_callers free each at =
           let n = slice_index t.words 0 in
           let now = winner p free.board.log in
           let becomes : either (n == 0) 1 n ≡ 1 = ap (λ (m : ℕ). either (m == 0) 1 m) free.word in
@@ -194,6 +195,7 @@ module _ {F : Type 0} where
               slots = length-set t.homes 0 none ∙ single;
               log = log;
               legal = legal;
+              of_callers = of_callers;
               owner = owner;
               holder = Some id;
               turn = record {
@@ -225,7 +227,7 @@ module _ {F : Type 0} where
 
       try_either : (t : TurnTable F W) (st : Step (Slot W)) → (rule : BoardRule rows stands key t) → IsAt t id (view.Seat p) → (holder : Option ℕ)
           → TurnIs rows stands terms rule.log t holder → ((j : ℕ) (w : View F) → IsAt t j w → ViewFits terms rule.owner holder rule.log j w) → Goal t st
-      try_either t st rule at None turn each = try_wins t st rule.log rule.owner rule.words rule.slots rule.legal turn each at
+      try_either t st rule at None turn each = try_wins t st rule.log rule.owner rule.words rule.slots rule.legal rule.of_callers turn each at
       try_either t st rule at (Some i) turn each = try_misses t st i turn rule at
 
       pub try_keeps : (slots : ℕ) (st : Step (Slot W))
@@ -303,6 +305,8 @@ module _ {F : Type 0} where
             slots = length-set t.homes 0 (some (Some b)) ∙ one;
             log = b.log;
             legal = subst (λ (r : ℕ). IsLegal r key.room b.log) of_terms.rows_are (subst (λ (m : ℕ). IsLegal b.rows m b.log) of_terms.room_is of_terms.sound.sound.legal);
+            of_callers = grows_of_callers p.number key.callers rule.log b.log grown
+                (let numbers : p.number + p.spare < key.callers = fits.numbers in omega arith) rule.of_callers;
             owner = rule.owner;
             holder = None;
             turn = record {

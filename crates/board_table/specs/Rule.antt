@@ -99,6 +99,8 @@ module _ {F : Type 0} where
       -- there is one history, and it is legal
       pub log : List Logged
       pub legal : IsLegal (rows opening.plan.value) opening.room log
+      -- each of its entries is of a caller, so that the history of a new board is empty
+      pub of_callers : Each (λ e. e.who < opening.callers) log
       pub owner : ℕ → ℕ
       pub holder : Option ℕ
       pub turn : TurnIs (terms_of opening) log t holder

@@ -37,6 +37,15 @@ pub record Stream : Type 1 where
   pub faults_new : ℕ
   pub same : Type 0
 
+abbrev pub stream : Option (List ℕ) → Option (List ℕ) → ℕ → ℕ → Type 0 → Stream
+stream old new faults_old faults_new same = record {
+  old = old;
+  new = new;
+  faults_old = faults_old;
+  faults_new = faults_new;
+  same = same;
+}
+
 -- no call of the stream failed; one did
 abbrev pub IsSteady : Stream → Type 0
 IsSteady stream = stream.faults_new ≡ stream.faults_old

@@ -4,7 +4,7 @@
 ghost use Rattle.std.specs.Prelude.{◌≡◌, Some, Ok, map, string_bytes, IfOk, IfErr, IfSome, OnOk};
 ghost use Rattle.gta_words.specs.Words.{IsWithinOptions, command_of};
 ghost use Rattle.gta_cli.specs.Causes.{Explains};
-ghost use Rattle.gta_cli.specs.Endings.{ComesTo, IsDrill, IsReadWhole};
+ghost use Rattle.gta_cli.specs.Endings.{ComesTo, IsDrill, IsReadWhole, stream};
 
 use gta_job::{INPUT_LIMIT, JobEnd, answer_job, drill_job, list_job, show_job};
 use gta_port::{ReadEnd, Source, read_all};
@@ -77,8 +77,8 @@ pub(crate) fn answer<R: Threads + Sync, S: Source>(
         ComesTo (command_of (map string_bytes words.now)) (S.left source.old) (Ok text.items)) }
     ensures whole { OnOk result (IsReadWhole (command_of (map string_bytes words.now)) (S.left source.new)) }
     ensures steady { OnOk result (S.faults source.new ≡ S.faults source.old) }
-    ensures cause { IfErr result (Explains (command_of (map string_bytes words.now)) (record { old = S.left source.old; new = S.left source.new;
-        faults_old = S.faults source.old; faults_new = S.faults source.new; same = source.new ≡ source.old })) }
+    ensures cause { IfErr result (Explains (command_of (map string_bytes words.now)) (stream (S.left source.old)
+        (S.left source.new) (S.faults source.old) (S.faults source.new) (source.new ≡ source.old))) }
     ensures drill { IfSome (command_of (map string_bytes words.now)) (λ command.
         IsDrill command → source.new ≡ source.old) }
 {
@@ -97,8 +97,8 @@ fn text_by<R: Threads + Sync, S: Source>(
     ensures text { IfOk result (λ text. ComesTo (Some command) (S.left source.old) (Ok text.items)) }
     ensures whole { OnOk result (IsReadWhole (Some command) (S.left source.new)) }
     ensures steady { OnOk result (S.faults source.new ≡ S.faults source.old) }
-    ensures cause { IfErr result (Explains (Some command) (record { old = S.left source.old; new = S.left source.new;
-        faults_old = S.faults source.old; faults_new = S.faults source.new; same = source.new ≡ source.old })) }
+    ensures cause { IfErr result (Explains (Some command) (stream (S.left source.old)
+        (S.left source.new) (S.faults source.old) (S.faults source.new) (source.new ≡ source.old))) }
     ensures drill { IsDrill command → source.new ≡ source.old }
 {
     match command {

@@ -5,7 +5,8 @@
 ghost use Rattle.std.specs.Prelude.{◌≡◌, map, string_bytes, IfSome};
 ghost use Rattle.gta_words.specs.Words.{command_of};
 ghost use Rattle.gta_cli.specs.declared.status.Status.{Status};
-ghost use Rattle.gta_cli.specs.Endings.{Ends, IsDrill, number_of};
+ghost use Rattle.gta_cli.specs.Endings.{Ends, IsDrill, number_of, stream};
+ghost use Rattle.gta_cli.specs.Complete.{IsComplete};
 
 use crate::ending::{Ending, answer};
 use crate::says::{out_of_memory, say};
@@ -31,15 +32,15 @@ pub fn gta_main<R: Threads + Sync, S: Source, O: Sink, E: Sink>(
     out: &mut O,
     err: &mut E,
 ) -> u8
-    ensures ends { (status : Status) × (result ≡ number_of status)
-        × Ends (command_of (map string_bytes words.now))
-        (record { old = S.left source.old; new = S.left source.new; faults_old = S.faults source.old;
-            faults_new = S.faults source.new; same = source.new ≡ source.old })
-        (record { old = O.gone out.old; new = O.gone out.new; faults_old = O.faults out.old;
-            faults_new = O.faults out.new; same = out.new ≡ out.old })
-        (record { old = E.gone err.old; new = E.gone err.new; faults_old = E.faults err.old;
-            faults_new = E.faults err.new; same = err.new ≡ err.old })
-        status }
+    // How the call ends, by its status; and so, with no fault, what was asked for is answered or refused.
+    ensures ends {
+        let asked = command_of (map string_bytes words.now) in
+        let read = stream (S.left source.old) (S.left source.new) (S.faults source.old) (S.faults source.new)
+            (source.new ≡ source.old) in
+        let gone = stream (O.gone out.old) (O.gone out.new) (O.faults out.old) (O.faults out.new) (out.new ≡ out.old) in
+        let said = stream (E.gone err.old) (E.gone err.new) (E.faults err.old) (E.faults err.new) (err.new ≡ err.old) in
+        (status : Status) × (result ≡ number_of status) × Ends asked read gone said status
+        × IsComplete asked read gone said status }
     // A drill reads nothing, whatever the status.
     ensures drill { IfSome (command_of (map string_bytes words.now)) (λ command.
         IsDrill command → source.new ≡ source.old) }
@@ -56,14 +57,13 @@ fn ended<R: Threads + Sync, S: Source, O: Sink, E: Sink>(
     out: &mut O,
     err: &mut E,
 ) -> Status
-    ensures ends { Ends (command_of (map string_bytes words.now))
-        (record { old = S.left source.old; new = S.left source.new; faults_old = S.faults source.old;
-            faults_new = S.faults source.new; same = source.new ≡ source.old })
-        (record { old = O.gone out.old; new = O.gone out.new; faults_old = O.faults out.old;
-            faults_new = O.faults out.new; same = out.new ≡ out.old })
-        (record { old = E.gone err.old; new = E.gone err.new; faults_old = E.faults err.old;
-            faults_new = E.faults err.new; same = err.new ≡ err.old })
-        result }
+    ensures ends {
+        let asked = command_of (map string_bytes words.now) in
+        let read = stream (S.left source.old) (S.left source.new) (S.faults source.old) (S.faults source.new)
+            (source.new ≡ source.old) in
+        let gone = stream (O.gone out.old) (O.gone out.new) (O.faults out.old) (O.faults out.new) (out.new ≡ out.old) in
+        let said = stream (E.gone err.old) (E.gone err.new) (E.faults err.old) (E.faults err.new) (err.new ≡ err.old) in
+        Ends asked read gone said result }
     ensures drill { IfSome (command_of (map string_bytes words.now)) (λ command.
         IsDrill command → source.new ≡ source.old) }
 {

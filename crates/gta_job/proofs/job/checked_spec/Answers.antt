@@ -1,5 +1,0 @@
-use Rattle.gta_types.specs.ResolvedOf.{resolved-is}
-use Rattle.gta_job.proofs.job.checked_spec.Goals as goal
-
-pub returns-clause-resolved : goal.returns-clause-resolved
-returns-clause-resolved c = resolved-is c.in_ok-checked.ensures.resolved
