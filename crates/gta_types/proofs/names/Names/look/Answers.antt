@@ -1,7 +1,7 @@
-use Rattle.std.proofs.Common.{rules}
+use Rattle.std.proofs.Common.{◌∙◌}
 use Rattle.gta_types.specs.Index.{known_at}
 use Rattle.gta_types.proofs.names.Names.look.Goals as goal
 
 pub returns : goal.returns
 unfolding known_at
-returns c = search rules
+returns c = c.copied.ensures ∙ c.get.ensures.value
