@@ -1,4 +1,4 @@
 pub mod Records
 pub mod Bounds
-pub mod Steps
+pub mod Ordered
 pub mod Labelled

@@ -12,7 +12,7 @@ use Rattle.gta_rows.specs.declared.fault.RowsFault.{RowsFault}
 use Rattle.gta_rows.specs.declared.fault.RowsFault.TheVariants.{TooMany}
 use Rattle.gta_rows.specs.Table.{IsTableOf, fault_behind, fault_in, first_bad_cell, missing, no_cell, places}
 use Rattle.gta_rows.specs.Table.{table_fault, table_records, too_many, twice, wrong_length}
-use Rattle.gta_job.specs.Jobs.{rows_of}
+use Rattle.gta_job.specs.Outcome.{rows_of}
 
 or-second : {A : Type 0} (first second : Option A) → option_or first second ≡ None → second ≡ None
 or-second None second none = none

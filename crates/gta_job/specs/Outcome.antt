@@ -35,9 +35,9 @@ unless None next = next
 unless (Some refusal) next = Err refusal
 
 -- what follows from a value, unless there is a refusal in its place
-abbrev pub then : {S T : Type 0} → Result S Refusal → (S → Result T Refusal) → Result T Refusal
-then (Ok value) next = next value
-then (Err refusal) next = Err refusal
+abbrev pub and_then : {S T : Type 0} → Result S Refusal → (S → Result T Refusal) → Result T Refusal
+and_then (Ok value) next = next value
+and_then (Err refusal) next = Err refusal
 
 -- the refusal of an input of too many bytes
 abbrev pub input_refusal : List ℕ → Option Refusal
@@ -105,8 +105,8 @@ rows_list checked rows =
 -- what is told of the rows of a job: of its specification with names resolved, and of the table behind it
 abbrev pub of_rows : (PlainChecked → PlainRows → Result (List ℕ) Refusal) → List ℕ → Result (List ℕ) Refusal
 of_rows told bytes =
-    then (specification bytes) (λ read.
-    then (table_rows (resolved_of read.spec) (drop read.rows_at bytes)) (λ rows.
+    and_then (specification bytes) (λ read.
+    and_then (table_rows (resolved_of read.spec) (drop read.rows_at bytes)) (λ rows.
     told (resolved_of read.spec) rows))
 
 -- the report of the job that bytes hold, by leaves of so many rows
@@ -120,15 +120,15 @@ part_outcome leaf seed rows part = report_outcome leaf (drill_text part seed row
 -- the heading of a drill, and the reports of its three jobs
 abbrev pub drill_outcome : ℕ → ℕ → ℕ → Result (List ℕ) Refusal
 drill_outcome leaf seed rows =
-    then (part_outcome leaf seed rows Best) (λ best.
-    then (part_outcome leaf seed rows Greatest) (λ greatest.
-    then (part_outcome leaf seed rows Segments) (λ segments.
+    and_then (part_outcome leaf seed rows Best) (λ best.
+    and_then (part_outcome leaf seed rows Greatest) (λ greatest.
+    and_then (part_outcome leaf seed rows Segments) (λ segments.
     Ok (heading seed rows ++ (best ++ (greatest ++ segments))))))
 
 -- what a command comes to on bytes: the text that it prints, or the first of its refusals. The number of workers
 -- shows nowhere, and that of a leaf's rows in the refusal of the size alone
 unfoldable pub outcome : Command → List ℕ → Result (List ℕ) Refusal
 outcome (Run workers leaf) bytes = report_outcome leaf bytes
-outcome Show bytes = then (specification bytes) (λ read. Ok (canonical read.spec))
+outcome Show bytes = and_then (specification bytes) (λ read. Ok (canonical read.spec))
 outcome ListKept bytes = of_rows rows_list bytes
 outcome (Drill seed rows workers leaf) bytes = drill_outcome leaf seed rows

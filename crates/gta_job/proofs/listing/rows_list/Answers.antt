@@ -5,7 +5,7 @@ use Rattle.gta_checked.specs.PlainRows.{plain_rows}
 use Rattle.gta_meaning.specs.Kept.{kept}
 use Rattle.gta_meaning.specs.Listed.{marks_of}
 use Rattle.gta_job.proofs.Labelled.{kept-labelled}
-use Rattle.gta_job.proofs.listing.list_rows.Goals as goal
+use Rattle.gta_job.proofs.listing.rows_list.Goals as goal
 
 pub list_report-requires : goal.list_report-requires
 list_report-requires c =
