@@ -1,8 +1,7 @@
 //! The keys that are accepted: those of which each test accepts its digit.
 
-ghost use Rattle.std.specs.Prelude.{◌≡◌, ◌≤◌, ◌<◌, length, map, IfOk};
+ghost use Rattle.std.specs.Prelude.{◌≡◌, ◌<◌, IfOk};
 ghost use Rattle.gta_checked.specs.Plain.{plain_test};
-ghost use Rattle.gta_checked.specs.Within.{IsCheckWithin, IsTestWithin};
 ghost use Rattle.gta_meaning.specs.Elements.{AreAccepted, IsAccepted};
 ghost use Rattle.monoid_product.specs.Product.{key_count};
 ghost use Rattle.monoid_product.specs.ProductOf.{plain_parts};

@@ -1,7 +1,7 @@
 //! The letters of rows and labels: what each adds to every test, as one key.
 //! specs/Letters.antt says what that is.
 
-ghost use Rattle.std.specs.Prelude.{◌≡◌, ◌≤◌, ◌<◌, ◌*◌, ◌++◌, All, length, map, IfOk, OnOk};
+ghost use Rattle.std.specs.Prelude.{◌≡◌, ◌<◌, ◌++◌, All, length, map, IfOk, OnOk};
 ghost use Rattle.gta_checked.specs.Plain.{plain_pick, plain_test};
 ghost use Rattle.gta_checked.specs.PlainRows.{plain_rows};
 ghost use Rattle.gta_checked.specs.Tables.{table_at};
