@@ -3,9 +3,13 @@
 //! Pieces and claims stand in queues, where a put or a take moves the shorter side of its place:
 //! pairs are mostly taken and settled near the front, and higher pieces come in near the back.
 
-ghost use Rattle.std.specs.Prelude.{◌≡◌, ◌+◌, ◌<◌, ◌≤◌, ◌++◌, ◌∷◌, [], IfOk};
+ghost use Rattle.std.specs.Prelude.{◌≡◌, ◌+◌, ◌<◌, ◌≤◌, ◌++◌, ◌∷◌, [], IfOk, IsTrue};
+ghost use Rattle.std.specs.List.{list_any};
 ghost use Rattle.std.specs.Vec.{vec_len, vec_capacity};
-ghost use Rattle.board_core.specs.Board.{empty, free, claim_of, IsClaim, with_settle, with_put_back};
+ghost use Rattle.std.specs.VecDeque.{deque_len, deque_capacity};
+ghost use Rattle.board_core.specs.Ordered.{IsRisingBy};
+ghost use Rattle.board_core.specs.Board.{empty, free, claim_of, is_same, IsClaim, put_piece};
+ghost use Rattle.board_core.specs.Board.{without_claim, offer_entry, with_settle, with_put_back};
 ghost use Rattle.board_core.specs.Calls.{Offers, Claims, AnswersPlainly};
 ghost use Rattle.board_core.specs.Sound.{IsSound};
 
@@ -110,9 +114,7 @@ impl<V: Drop> Core<V> {
         if self.free() == 0 {
             return CoreOffered::Full(piece);
         }
-        put(&mut self.held, piece);
-        let (event, reply) = (Event::Offer { lo, hi }, Reply::Kept);
-        append(&mut self.log, Logged { who, event, reply });
+        hold(&mut self.held, &mut self.log, who, piece);
         CoreOffered::Kept
     }
 
@@ -161,15 +163,48 @@ impl<V: Drop> Core<V> {
         ensures put_back { self.new ≡ with_put_back self.old taken }
         ensures sound { IsSound self.new }
     {
-        let claim = claim_of(&taken);
-        let Claim { who, lo, mid, hi } = claim;
-        let (left, right) = (taken.left, taken.right);
-        drop_claim(&mut self.claims, claim);
-        put(&mut self.held, right);
-        put(&mut self.held, left);
+        let Claim { who, lo, mid, hi } = claim_of(&taken);
+        hold_again(&mut self.held, &mut self.claims, taken);
         let (event, reply) = (Event::PutBack { lo, mid, hi }, Reply::Kept);
         append(&mut self.log, Logged { who, event, reply });
     }
+}
+
+// An offer that is kept: the piece is held, and the log says so.
+fn hold<V: Drop>(held: &mut VecDeque<Piece<V>>, log: &mut Vec<Logged>, who: u32, piece: Piece<V>)
+    requires rises { IsRisingBy (λ p. p.lo) held.old.items }
+    requires held_room { deque_len held.old < deque_capacity held.old }
+    requires log_room { vec_len log.old < vec_capacity log.old }
+    ensures held { held.new.items ≡ put_piece piece held.old.items }
+    ensures held_len { deque_len held.new ≡ deque_len held.old + 1 }
+    ensures held_capacity { deque_capacity held.old ≤ deque_capacity held.new }
+    ensures log { log.new.items ≡ log.old.items ++ offer_entry who piece ∷ [] }
+    ensures log_len { vec_len log.new ≡ vec_len log.old + 1 }
+    ensures log_capacity { vec_capacity log.old ≤ vec_capacity log.new }
+{
+    let (lo, hi) = (piece.lo, piece.hi);
+    put(held, piece);
+    let (event, reply) = (Event::Offer { lo, hi }, Reply::Kept);
+    append(log, Logged { who, event, reply });
+}
+
+// The claim ends, and both of its pieces are held. The right one goes first, since it begins higher.
+fn hold_again<V: Drop>(held: &mut VecDeque<Piece<V>>, claims: &mut VecDeque<Claim>, taken: Taken<V>)
+    requires held_rises { IsRisingBy (λ p. p.lo) held.old.items }
+    requires right_rises { IsRisingBy (λ p. p.lo) (put_piece taken.right held.old.items) }
+    requires held_room { deque_len held.old + 1 < deque_capacity held.old }
+    requires claims_rise { IsRisingBy (λ c. c.lo) claims.old.items }
+    requires is_open { IsTrue (list_any (λ c. is_same c (claim_of taken)) claims.old.items) }
+    ensures held { held.new.items ≡ put_piece taken.left (put_piece taken.right held.old.items) }
+    ensures held_len { deque_len held.new ≡ deque_len held.old + 2 }
+    ensures held_capacity { deque_capacity held.old ≤ deque_capacity held.new }
+    ensures claims { claims.new.items ≡ without_claim (claim_of taken) claims.old.items }
+    ensures claims_len { deque_len claims.new + 1 ≡ deque_len claims.old }
+    ensures claims_capacity { deque_capacity claims.new ≡ deque_capacity claims.old }
+{
+    drop_claim(claims, claim_of(&taken));
+    put(held, taken.right);
+    put(held, taken.left);
 }
 
 fn claim_of<V>(taken: &Taken<V>) -> Claim

@@ -2,7 +2,7 @@
 //! takes that keep the order. A place is found by halving.
 //! A put or a take then moves what stands below the place or what stands above it, whichever is less.
 
-ghost use Rattle.std.specs.Prelude.{◌≡◌, ◌+◌, ◌<◌, ◌≤◌, ℕ, IsTrue, IsSome, IfSome, IfNone, length};
+ghost use Rattle.std.specs.Prelude.{◌≡◌, ◌==◌, ◌+◌, ◌<◌, ◌≤◌, ℕ, IsTrue, IsSome, IfSome, IfNone, length};
 ghost use Rattle.std.specs.List.{list_all, list_any};
 ghost use Rattle.std.specs.VecDeque.{deque_len, deque_capacity};
 ghost use Rattle.board_core.specs.Ordered.{IsRisingBy, put_by};
@@ -103,6 +103,12 @@ pub(crate) fn drop_claim(claims: &mut VecDeque<Claim>, claim: Claim)
     let _claim = claims.remove(at);
 }
 
+fn adjoin<V>(left: &Piece<V>, right: &Piece<V>) -> bool
+    ensures { result ≡ (left.now.hi == right.now.lo) }
+{
+    left.hi == right.lo
+}
+
 /// Where the left one of the first two neighbours stands of which one ends where the other begins.
 pub(crate) fn pair_place<V>(held: &VecDeque<Piece<V>>) -> Option<usize>
     ensures pair { IfSome result (λ at. at ≡ pair_index held.now.items) }
@@ -110,7 +116,7 @@ pub(crate) fn pair_place<V>(held: &VecDeque<Piece<V>>) -> Option<usize>
     ensures no_pair { IfNone result (first_pair held.now.items ≡ None) }
 {
     for at in 1..held.len() {
-        if held[at - 1].hi == held[at].lo {
+        if adjoin(&held[at - 1], &held[at]) {
             return Some(at - 1);
         }
     }

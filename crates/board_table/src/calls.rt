@@ -1,8 +1,9 @@
 //! The calls on a shared board. Each tries once for the turn, and one that wins it makes its one
 //! change to the board and gives the turn up before it returns. `close` alone keeps it.
 
-ghost use Rattle.std.specs.Prelude.{◌≡◌, ◌<◌, MatchOption};
+ghost use Rattle.std.specs.Prelude.{◌≡◌, ◌<◌, ◌≤◌, MatchOption};
 ghost use Rattle.board_core.specs.Board.{IsClaim};
+ghost use Rattle.board_core.specs.Calls.{Offers, Claims, AnswersPlainly};
 ghost use Rattle.board_table.specs.Seen.{IsReady, IsSameSeat};
 ghost use Rattle.board_table.specs.Changes.{HasWon, Misses, MayGoHome, done_seat};
 ghost use Rattle.board_table.specs.Answers.{StandsIn, IsWithin, OfferAnswers, ClaimAnswers};
@@ -55,7 +56,7 @@ impl<F: Fused> Board<F> {
         let Some(mut core) = self.win(seat) else {
             return Offered::Busy(piece);
         };
-        let answer = core.offer(seat.number(), piece);
+        let answer = offer_by(seat, &mut core, piece);
         self.free(seat, core);
         match answer {
             CoreOffered::Kept => Offered::Kept,
@@ -76,7 +77,7 @@ impl<F: Fused> Board<F> {
         let Some(mut core) = self.win(seat) else {
             return Claimed::Busy;
         };
-        let answer = core.claim(seat.number());
+        let answer = claim_by(seat, &mut core);
         self.free(seat, core);
         match answer {
             CoreClaimed::Pair(taken) => Claimed::Pair(taken),
@@ -144,4 +145,25 @@ impl<F: Fused> Board<F> {
             log,
         }
     }
+}
+
+// The seat's offer, entered under its number.
+fn offer_by<F: Fused>(
+    seat: &Seat<F>,
+    core: &mut Core<F::Value>,
+    piece: Piece<F::Value>,
+) -> CoreOffered<F::Value>
+    requires nonempty { piece.lo < piece.hi }
+    requires within { piece.hi ≤ core.old.rows }
+    ensures answer { Offers core.old seat.now.number piece result core.new }
+{
+    core.offer(seat.number(), piece)
+}
+
+// The seat's claim, entered under its number.
+fn claim_by<F: Fused>(seat: &Seat<F>, core: &mut Core<F::Value>) -> CoreClaimed<F::Value>
+    ensures answer { Claims core.old seat.now.number result core.new }
+    ensures plainly { AnswersPlainly core.old result core.new }
+{
+    core.claim(seat.number())
 }

@@ -1,206 +1,218 @@
--- The account of a worker, turn by turn.
-use Rattle.std.proofs.Common.{◌≡◌, ◌≢◌, ℕ, ◌+◌, ◌-◌, ◌*◌, ◌<◌, ◌≤◌, Bool, true, false, cond, List, [], ◌∷◌, ◌++◌, length, get_or, refl, ap, sym, subst, ◌∙◌, arith, append_assoc, length-append, ◌⊎◌, inl, inr, ⊎_elim}
-use Rattle.std.specs.Prelude.{Some, count_by}
-use Rattle.std.specs.List.{Contains}
+-- The account of a worker, turn by turn, and how it stops.
+use Rattle.std.proofs.Common.{◌≡◌, ◌≢◌, ℕ, ◌+◌, ◌-◌, ◌<◌, ◌≤◌, Bool, true, false, cond, List, [], ◌∷◌, ◌++◌, length, get_or, refl, ap, sym, subst, ◌∙◌, arith, append-nil, append_assoc, length-append, ◌⊎◌, inl, inr, ⊎_elim}
+use Rattle.std.specs.Prelude.{Option, Some, ◌↔◌, count_by}
+use Rattle.std.specs.List.{All, Contains}
 use Rattle.std.proofs.lemmas.List.{get_or_append_left}
-use Rattle.std.proofs.Math.Seq.{get_or-append_seam}
+use Rattle.std.proofs.Math.Seq.{get_or-append_right}
 use Rattle.std.proofs.lemmas.List.Sums.{sum_by-append, sum_by-le}
-use Rattle.std.proofs.lemmas.List.Elements.{Contains-append_left, Contains-append_right}
+use Rattle.std.proofs.lemmas.List.Elements.{All-nil, All-cons, Contains-append_left, Contains-append_right}
 use Rattle.interval_kit.specs.declared.piece.Piece.{Piece}
 use Rattle.board_core.specs.declared.event.Logged.{Logged}
-use Rattle.board_core.specs.declared.taken.Taken.{Taken}
+use Rattle.board_core.specs.declared.taken.Claim.{Claim}
+use Rattle.board_core.specs.Board.{piece_at, claim_of}
 use Rattle.steal_deal.specs.declared.view.View.{View}
 use Rattle.board_table.specs.Seen.{SeatSeen, IsSameSeat}
+use Rattle.board_table.specs.Answers.{StandsIn, IsPair}
 use Rattle.worker_pool.specs.declared.pocket.Pocket.{Pocket}
 use Rattle.worker_pool.specs.declared.pocket.Pocket.TheVariants.{Empty, Offer, Settle, Return}
 use Rattle.worker_pool.specs.declared.turn.Turn.{Turn}
-use Rattle.worker_pool.specs.declared.turn.Turn.TheVariants.{Went, Missed, Refused, Drained, Memory, Unreturned}
-use Rattle.worker_pool.specs.Leaves.{HasMetAll, TakesLeaf}
-use Rattle.worker_pool.specs.Pockets.{HasOffer, IsInHand}
-use Rattle.worker_pool.specs.Turns.{is_pair, is_put_back, HasKept, TurnMakes, TurnEnds, LeafEnds, TakesTurn, TurnWithLeaf, TurnWithoutLeaf, IsRefused, GetsNoPair}
-use Rattle.worker_pool.specs.Accounts.{IsAccounted, Account}
+use Rattle.worker_pool.specs.declared.site.Worker.{Worker}
+use Rattle.worker_pool.specs.declared.working.WorkEnd.{WorkEnd}
+use Rattle.worker_pool.specs.declared.working.WorkEnd.TheVariants as ending
+use Rattle.worker_pool.specs.Walk.{IsGood}
+use Rattle.worker_pool.specs.Pockets.{pieces_in, HasOffer, IsStanding, IsInHand}
+use Rattle.worker_pool.specs.Turns.{is_pair, is_put_back, HasKept, left_by, misses, loses}
+use Rattle.worker_pool.specs.Sites.{IsDelivered, TakesTurn}
+use Rattle.worker_pool.specs.Workers.{HasPiece, IsOnOffer, IsHeld, IsAccounted, WorkAccount, WorkEnds, lost}
+use Rattle.worker_pool.specs.Stops.{Stops}
 use Rattle.worker_pool.proofs.Bounds.{below_or_not}
-use Rattle.worker_pool.proofs.Turning.{kept_in_hand}
 
-module _ {F W : Type 0} (rows : F → ℕ) (stands : F → ℕ → ℕ → W → Type 0) (cut : List ℕ) where
-  -- what came before and what one turn makes, where nothing was in hand at the beginning
-  together : (old mid new : SeatSeen F) (held before after : Pocket W) (pairs pairs' backs missed missed' : ℕ)
-      → TurnMakes rows stands old Empty held pairs 0 missed mid → TurnMakes rows stands mid before after pairs' backs missed' new
-      → TurnMakes rows stands old Empty after (pairs + pairs') backs (missed + missed') new
-  together old mid new held before after pairs pairs' backs missed missed' first second = record {
-    gained = first.gained ++ second.gained;
-    mine = second.mine ∙ ap (λ es. es ++ second.gained) first.mine ∙ append_assoc old.mine first.gained second.gained;
-    pairs_are = sum_by-append (λ e. cond (is_pair e) 1 0) first.gained second.gained ∙ (let a = first.pairs_are in let b = second.pairs_are in cc);
-    backs_are = omega (arith, sum_by-append (λ e. cond (is_put_back e) 1 0) first.gained second.gained, first.backs_are, second.backs_are);
-    missed_are = omega (arith, first.missed_are, second.missed_are);
-    won = omega (arith, first.won, second.won);
-    seen = omega (arith, first.seen, second.seen);
-    offers = λ lo hi has. absurd has;
-    in_hand = second.in_hand;
+only_one : (c d : Claim) → Contains (d ∷ []) c → d ≡ c
+only_one c d (k, within, there) =
+    let first : k ≡ 0 = omega arith in
+    subst (λ n. get_or (d ∷ []) n c ≡ c) first there
+
+none_in : (c : Claim) → Contains [] c → ⊥
+none_in c (k, within, there) = absurd (omega arith)
+
+module _ {W : Type 0} where
+  first_has : (p : Piece W) (ps : List (Piece W)) (lo hi : ℕ) → p.lo ≡ lo → p.hi ≡ hi → HasPiece (p ∷ ps) lo hi
+  first_has p ps lo hi from to = (p, (0, omega arith, refl), from, to)
+
+  second_has : (p q : Piece W) (lo hi : ℕ) → q.lo ≡ lo → q.hi ≡ hi → HasPiece (p ∷ q ∷ []) lo hi
+  second_has p q lo hi from to = (q, (1, omega arith, refl), from, to)
+
+  module _ {F : Type 0} (rows : F → ℕ) (stands : F → ℕ → ℕ → W → Type 0) where
+    claims_held : (seat : SeatSeen F) (pocket : Pocket W) → IsInHand rows stands seat pocket → (c : Claim) → Contains seat.taken c → IsHeld (pieces_in pocket) c
+    claims_held seat Empty in_hand c has = absurd (none_in c (subst (λ cs. Contains cs c) in_hand has))
+    claims_held seat (Offer p) in_hand c has = absurd (none_in c (subst (λ cs. Contains cs c) in_hand.0 has))
+    claims_held seat (Settle t value) in_hand c has =
+        subst (λ d. IsHeld (pieces_in (Settle t value)) d) (only_one c (claim_of t) (subst (λ cs. Contains cs c) in_hand.0 has))
+        (inr (first_has (piece_at t.left.lo t.right.hi value) [] t.left.lo t.right.hi refl refl))
+    claims_held seat (Return t) in_hand c has =
+        subst (λ d. IsHeld (pieces_in (Return t)) d) (only_one c (claim_of t) (subst (λ cs. Contains cs c) in_hand.0 has))
+        (inl (first_has t.left (t.right ∷ []) t.left.lo t.left.hi refl refl, second_has t.left t.right t.left.hi t.right.hi (sym in_hand.1.adjoin) refl))
+
+    pub all_good : (plan : F) (seat : SeatSeen F) (pocket : Pocket W) → seat.plan ≡ Some plan → IsInHand rows stands seat pocket
+        → All (IsGood (rows plan) (stands plan)) (pieces_in pocket)
+    all_good plan seat Empty is in_hand = All-nil (IsGood (rows plan) (stands plan))
+    all_good plan seat (Offer p) is in_hand =
+        let stand = subst (λ (pl : Option F). IsStanding rows stands pl p) is in_hand.1 in
+        All-cons (IsGood (rows plan) (stands plan)) p []
+        (record { nonempty = stand.nonempty; within = stand.within; value_stands = stand.value_stands })
+        (All-nil (IsGood (rows plan) (stands plan)))
+    all_good plan seat (Settle t value) is in_hand =
+        let pair = subst (λ (pl : Option F). IsPair rows stands pl t) is in_hand.1 in
+        let stand = subst (λ (pl : Option F). StandsIn stands pl t.left.lo t.right.hi value) is in_hand.2 in
+        All-cons (IsGood (rows plan) (stands plan)) (piece_at t.left.lo t.right.hi value) []
+        (record { nonempty = omega (arith, pair.left_nonempty, pair.adjoin, pair.right_nonempty); within = pair.within; value_stands = stand })
+        (All-nil (IsGood (rows plan) (stands plan)))
+    all_good plan seat (Return t) is in_hand =
+        let pair = subst (λ (pl : Option F). IsPair rows stands pl t) is in_hand.1 in
+        let ends : t.right.hi ≤ rows plan = pair.within in
+        All-cons (IsGood (rows plan) (stands plan)) t.left (t.right ∷ [])
+        (record { nonempty = pair.left_nonempty; within = omega (arith, ends, pair.adjoin, pair.right_nonempty); value_stands = pair.left_stands })
+        (All-cons (IsGood (rows plan) (stands plan)) t.right []
+        (record { nonempty = pair.right_nonempty; within = pair.within; value_stands = pair.right_stands })
+        (All-nil (IsGood (rows plan) (stands plan))))
+
+    -- the leaf that is still to be offered, seen by the pieces in hand
+    is_on_offer : (seat : SeatSeen F) (pocket : Pocket W) → IsInHand rows stands seat pocket → (lo hi : ℕ) → HasOffer pocket lo hi
+        → IsOnOffer seat.taken (pieces_in pocket) lo hi
+    is_on_offer seat Empty in_hand lo hi has = absurd has
+    is_on_offer seat (Offer p) in_hand lo hi has = (in_hand.0, (p, refl, has.0, has.1))
+    is_on_offer seat (Settle t value) in_hand lo hi has = absurd has
+    is_on_offer seat (Return t) in_hand lo hi has = absurd has
+
+    has_offer : (seat : SeatSeen F) (pocket : Pocket W) → IsInHand rows stands seat pocket → (lo hi : ℕ) → IsOnOffer seat.taken (pieces_in pocket) lo hi
+        → HasOffer pocket lo hi
+    has_offer seat Empty in_hand lo hi (none, (p, is, from, to)) = let e : [] ≡ p ∷ [] = is in absurd cc
+    has_offer seat (Offer q) in_hand lo hi (none, (p, is, from, to)) =
+        let same : q ≡ p = ap (λ (ps : List (Piece W)). get_or ps 0 q) is in
+        (ap (λ (r : Piece W). r.lo) same ∙ from, ap (λ (r : Piece W). r.hi) same ∙ to)
+    has_offer seat (Settle t value) in_hand lo hi (none, some) = let e : [] ≡ claim_of t ∷ [] = sym none ∙ in_hand.0 in absurd cc
+    has_offer seat (Return t) in_hand lo hi (none, some) = let e : [] ≡ claim_of t ∷ [] = sym none ∙ in_hand.0 in absurd cc
+
+module _ {F W : Type 0} (rows : F → ℕ) (stands : F → ℕ → ℕ → W → Type 0) (cut : List ℕ) (old : SeatSeen F) where
+  -- how far a worker has come, with this in hand
+  pub record Working (pocket : Pocket W) (missed : ℕ) (worker : Worker F W) : Type 0 where
+    pub account : WorkAccount cut old worker.seat worker.hand.view (pieces_in pocket) worker.pairs 0
+    pub in_hand : IsInHand rows stands worker.seat pocket
+    pub missed_are : worker.seat.missed ≡ old.missed + missed
+    pub won : old.won ≤ worker.seat.won
+
+  pub begins : (worker : Worker F W) → old ≡ worker.seat → worker.seat.taken ≡ [] → worker.hand.view.taken ≡ [] → worker.pairs ≡ 0 → Working Empty 0 worker
+  begins worker same claims none no_pair = record {
+    account = record {
+      gained = [];
+      mine = ap (λ (s : SeatSeen F). s.mine) (sym same) ∙ sym (append-nil old.mine);
+      pairs_are = sym no_pair;
+      few_backs = omega arith;
+      leaves = λ k within. absurd (omega (arith, ap (λ ys. length ys) none));
+      claims = λ c has. absurd (none_in c (subst (λ cs. Contains cs c) claims has));
+    };
+    in_hand = claims;
+    missed_are = omega (arith, ap (λ (s : SeatSeen F). s.missed) same);
+    won = omega (arith, ap (λ (s : SeatSeen F). s.won) same);
   }
 
-  module _ (old mid new : SeatSeen F) (held : Pocket W) (pairs missed : ℕ) (number : new.number ≡ mid.number) where
-    -- a leaf that was accounted for still is
-    still_accounted : (before after : Pocket W) (pairs' backs missed' : ℕ) (taken : List ℕ) (first : Account rows stands cut old held pairs 0 missed 0 mid taken)
-        (second : TurnMakes rows stands mid before after pairs' backs missed' new) → ((lo hi : ℕ) → HasOffer held lo hi → HasOffer before lo hi)
-        → (k : ℕ) → k < length taken → IsAccounted rows stands cut (first.makes.gained ++ second.gained) new.number after (get_or taken k 0)
-    still_accounted before after pairs' backs missed' taken first second same k within =
-        let lo = get_or cut (get_or taken k 0) 0 in
-        let hi = get_or cut (get_or taken k 0 + 1) 0 in
+  module _ (mid new : Worker F W) (held : Pocket W) (missed : ℕ) (answer : Turn W) (before : Working held missed mid)
+      (number : new.seat.number ≡ mid.seat.number) (turn : TakesTurn rows stands cut mid held answer new) where
+    abbrev gained : List Logged
+    gained = before.account.gained ++ turn.ends.makes.gained
+
+    -- what the turn delivered
+    delivered : (y : ℕ) → IsDelivered cut turn.ends.makes.gained new.seat.number (left_by answer) y
+        → IsAccounted cut gained new.seat (pieces_in (left_by answer)) y
+    delivered y is =
+        let lo = get_or cut y 0 in
+        let hi = get_or cut (y + 1) 0 in
         ⊎_elim
-        (λ (kept : HasKept first.makes.gained mid.number lo hi).
-        inl (Contains-append_left first.makes.gained second.gained _ (subst (λ who. HasKept first.makes.gained who lo hi) (sym number) kept)))
-        (λ (has : HasOffer held lo hi). ⊎_elim
-        (λ (kept : HasKept second.gained new.number lo hi). inl (Contains-append_right first.makes.gained second.gained _ kept))
-        (λ (has' : HasOffer after lo hi). inr has')
-        (second.offers lo hi (same lo hi has)))
-        (first.leaves k (omega arith))
+        (λ (kept : HasKept turn.ends.makes.gained new.seat.number lo hi). inl (Contains-append_right before.account.gained turn.ends.makes.gained _ kept))
+        (λ (has : HasOffer (left_by answer) lo hi). inr (is_on_offer rows stands new.seat (left_by answer) turn.ends.makes.in_hand lo hi has))
+        is
 
-    -- a turn without a leaf
-    pub more_without_leaf : (after : Pocket W) (pairs' backs missed' : ℕ) (taken taken' : List ℕ) → taken' ≡ taken
-        → Account rows stands cut old held pairs 0 missed 0 mid taken → TurnMakes rows stands mid held after pairs' backs missed' new
-        → Account rows stands cut old after (pairs + pairs') backs (missed + missed') 0 new taken'
-    unfolding together
-    more_without_leaf after pairs' backs missed' taken taken' same first second =
-        subst (λ ys. Account rows stands cut old after (pairs + pairs') backs (missed + missed') 0 new ys) (sym same)
-        (record {
-          makes = together old mid new held held after pairs pairs' backs missed missed' first.makes second;
-          leaves = λ k within. still_accounted held after pairs' backs missed' taken first second (λ lo hi has. has) k (omega arith);
-        })
+    -- a leaf that was accounted for still is
+    still : (k : ℕ) → k < length mid.hand.view.taken → IsAccounted cut gained new.seat (pieces_in (left_by answer)) (get_or mid.hand.view.taken k 0)
+    still k within =
+        let y = get_or mid.hand.view.taken k 0 in
+        let lo = get_or cut y 0 in
+        let hi = get_or cut (y + 1) 0 in
+        ⊎_elim
+        (λ (kept : HasKept before.account.gained mid.seat.number lo hi).
+        inl (Contains-append_left before.account.gained turn.ends.makes.gained _ (subst (λ who. HasKept before.account.gained who lo hi) (sym number) kept)))
+        (λ (offer : IsOnOffer mid.seat.taken (pieces_in held) lo hi).
+        delivered y (turn.ends.makes.offers lo hi (has_offer rows stands mid.seat held before.in_hand lo hi offer)))
+        (before.account.leaves k (omega arith))
 
-    module _ (nothing : held ≡ Empty) (taken taken' : List ℕ) (y : ℕ) (joins : taken' ≡ taken ++ y ∷ []) where
-      none_held : (before : Pocket W) (lo hi : ℕ) → HasOffer held lo hi → HasOffer before lo hi
-      none_held before lo hi has = absurd (subst (λ p. HasOffer p lo hi) nothing has)
+    accounted : (k : ℕ) → k + loses answer < length (mid.hand.view.taken ++ turn.leaves)
+        → IsAccounted cut gained new.seat (pieces_in (left_by answer)) (get_or (mid.hand.view.taken ++ turn.leaves) k 0)
+    accounted k within = ⊎_elim
+        (λ (below : k < length mid.hand.view.taken).
+        subst (λ y. IsAccounted cut gained new.seat (pieces_in (left_by answer)) y) (sym (get_or_append_left mid.hand.view.taken turn.leaves 0 k below)) (still k below))
+        (λ (above : length mid.hand.view.taken ≤ k).
+        let place = k - length mid.hand.view.taken in
+        subst (λ y. IsAccounted cut gained new.seat (pieces_in (left_by answer)) y) (sym (get_or-append_right mid.hand.view.taken turn.leaves k 0 above))
+        (delivered (get_or turn.leaves place 0) (turn.delivered place (omega (arith, length-append mid.hand.view.taken turn.leaves)))))
+        (below_or_not k (length mid.hand.view.taken))
 
-      last_is : (k : ℕ) → k ≡ length taken → get_or (taken ++ y ∷ []) k 0 ≡ y
-      last_is k last = ap (λ n. get_or (taken ++ y ∷ []) n 0) last ∙ get_or-append_seam taken y [] 0
+    pub account_after : (more : ℕ) → loses answer ≤ more → WorkAccount cut old new.seat new.hand.view (pieces_in (left_by answer)) new.pairs more
+    account_after more enough = record {
+      gained = gained;
+      mine = turn.ends.makes.mine ∙ ap (λ es. es ++ turn.ends.makes.gained) before.account.mine ∙ append_assoc old.mine before.account.gained turn.ends.makes.gained;
+      pairs_are = omega (
+        arith,
+        sum_by-append (λ e. cond (is_pair e) 1 0) before.account.gained turn.ends.makes.gained,
+        before.account.pairs_are,
+        turn.ends.makes.pairs_are,
+        turn.pairs_are,
+      );
+      few_backs = omega (
+        arith,
+        sum_by-append (λ e. cond (is_put_back e) 1 0) before.account.gained turn.ends.makes.gained,
+        before.account.few_backs,
+        turn.ends.makes.few_backs,
+      );
+      leaves = λ k within.
+          subst (λ ys. IsAccounted cut gained new.seat (pieces_in (left_by answer)) (get_or ys k 0)) (sym turn.taken)
+          (accounted k (omega (arith, ap (λ ys. length ys) turn.taken)));
+      claims = claims_held rows stands new.seat (left_by answer) turn.ends.makes.in_hand;
+    }
 
-      -- the leaves before this one
-      earlier : (before after : Pocket W) (pairs' backs missed' : ℕ) (first : Account rows stands cut old held pairs 0 missed 0 mid taken)
-          (second : TurnMakes rows stands mid before after pairs' backs missed' new) (k : ℕ) → k < length taken
-          → IsAccounted rows stands cut (first.makes.gained ++ second.gained) new.number after (get_or (taken ++ y ∷ []) k 0)
-      earlier before after pairs' backs missed' first second k within =
-          subst (λ n. IsAccounted rows stands cut (first.makes.gained ++ second.gained) new.number after n)
-          (sym (get_or_append_left taken (y ∷ []) 0 k within))
-          (still_accounted before after pairs' backs missed' taken first second (none_held before) k within)
+    -- a turn that loses nothing
+    pub goes_on : (missed' : ℕ) → missed + misses answer ≡ missed' → loses answer ≡ 0 → Working (left_by answer) missed' new
+    goes_on missed' misses_are none_lost = record {
+      account = account_after 0 (omega arith);
+      in_hand = turn.ends.makes.in_hand;
+      missed_are = omega (arith, before.missed_are, turn.ends.makes.missed_are);
+      won = omega (arith, before.won, turn.ends.makes.won);
+    }
 
-      -- a turn with a leaf, which was offered
-      pub more_with_leaf : (before after : Pocket W) (pairs' backs missed' : ℕ) → HasOffer before (get_or cut y 0) (get_or cut (y + 1) 0)
-          → Account rows stands cut old held pairs 0 missed 0 mid taken → TurnMakes rows stands mid before after pairs' backs missed' new
-          → Account rows stands cut old after (pairs + pairs') backs (missed + missed') 0 new taken'
-      unfolding together
-      more_with_leaf before after pairs' backs missed' has first second =
-          subst (λ ys. Account rows stands cut old after (pairs + pairs') backs (missed + missed') 0 new ys) (sym joins)
-          (record {
-            makes = together old mid new held before after pairs pairs' backs missed missed' first.makes second;
-            leaves = λ k within. ⊎_elim
-                (λ (below : k < length taken). earlier before after pairs' backs missed' first second k below)
-                (λ (above : length taken ≤ k).
-                let last : k ≡ length taken = omega (arith, length-append taken (y ∷ [])) in
-                subst (λ n. IsAccounted rows stands cut (first.makes.gained ++ second.gained) new.number after n) (sym (last_is k last))
-                (⊎_elim
-                (λ (kept : HasKept second.gained new.number (get_or cut y 0) (get_or cut (y + 1) 0)). inl (Contains-append_right first.makes.gained second.gained _ kept))
-                (λ (has' : HasOffer after (get_or cut y 0) (get_or cut (y + 1) 0)). inr has')
-                (second.offers (get_or cut y 0) (get_or cut (y + 1) 0) has)))
-                (below_or_not k (length taken));
-          })
+    -- a turn that ends the worker
+    pub stops : (end : WorkEnd) → loses answer ≤ lost end → WorkEnds old new.seat new.hand.view (pieces_in (left_by answer)) end
+        → (end ≡ ending.Idle) ↔ (missed + misses answer ≡ 1000000) → Stops rows stands cut old (left_by answer) end new
+    stops end enough ends idle = record {
+      account = account_after (lost end) enough;
+      ends = ends;
+      idle = (
+        (λ is. omega (arith, idle.0 is, before.missed_are, turn.ends.makes.missed_are)),
+        (λ is. idle.1 (omega (arith, before.missed_are, turn.ends.makes.missed_are))),
+      );
+      in_hand = turn.ends.makes.in_hand;
+    }
 
-      -- a turn with a leaf, for which there was no memory
-      pub leaf_lost : (before after : Pocket W) (pairs' backs missed' : ℕ)
-          → Account rows stands cut old held pairs 0 missed 0 mid taken → TurnMakes rows stands mid before after pairs' backs missed' new
-          → Account rows stands cut old after (pairs + pairs') backs (missed + missed') 1 new taken'
-      unfolding together
-      leaf_lost before after pairs' backs missed' first second =
-          subst (λ ys. Account rows stands cut old after (pairs + pairs') backs (missed + missed') 1 new ys) (sym joins)
-          (record {
-            makes = together old mid new held before after pairs pairs' backs missed missed' first.makes second;
-            leaves = λ k within. earlier before after pairs' backs missed' first second k (omega (arith, length-append taken (y ∷ [])));
-          })
-
-  -- an account that allows for the loss of a leaf
-  pub may_lose : (old new : SeatSeen F) (pocket : Pocket W) (pairs backs missed : ℕ) (taken : List ℕ)
-      → Account rows stands cut old pocket pairs backs missed 0 new taken → Account rows stands cut old pocket pairs backs missed 1 new taken
-  may_lose old new pocket pairs backs missed taken account = record {
-    makes = account.makes;
-    leaves = λ k within. account.leaves k (omega arith);
-  }
-
-  -- what an answer makes of the account
-  abbrev pub Turned : SeatSeen F → SeatSeen F → ℕ → ℕ → Turn W → SeatSeen F → View → Type 0
-  Turned old mid pairs missed Went new w =
-      Account rows stands cut old Empty pairs 0 (missed + 0) 0 new w.taken × (length mid.seen < length new.seen) × (length new.seen ≤ new.room)
-  Turned old mid pairs missed (Missed after) new w =
-      Account rows stands cut old after pairs 0 (missed + 1) 0 new w.taken × (length mid.seen ≤ length new.seen)
-  Turned old mid pairs missed (Refused p) new w =
-      Account rows stands cut old (Offer p) pairs 0 (missed + 0) 0 new w.taken × IsRefused new p
-  Turned old mid pairs missed Drained new w =
-      Account rows stands cut old Empty pairs 0 (missed + 0) 0 new w.taken × HasMetAll w × (mid.won < new.won) × GetsNoPair new
-  Turned old mid pairs missed Memory new w =
-      (backs : ℕ) × (backs ≤ 1) × Account rows stands cut old Empty pairs backs (missed + 0) 1 new w.taken
-  Turned old mid pairs missed (Unreturned t) new w =
-      Account rows stands cut old (Return t) pairs 0 (missed + 1) 0 new w.taken
-
-  module _ (old mid new : SeatSeen F) (v w : View) (held : Pocket W) (pairs pairs' missed : ℕ) (number : new.number ≡ mid.number)
-      (first : Account rows stands cut old held pairs 0 missed 0 mid v.taken) where
-    without_leaf : (answer : Turn W) → TurnWithoutLeaf rows stands mid v held answer pairs' new w → Turned old mid (pairs + pairs') missed answer new w
-    without_leaf Went t = (more_without_leaf old mid new held pairs missed number Empty pairs' 0 0 v.taken w.taken t.taken first t.ends.0, t.ends.1, t.ends.2)
-    without_leaf (Missed after) t = (more_without_leaf old mid new held pairs missed number after pairs' 0 1 v.taken w.taken t.taken first t.ends, t.ends.seen)
-    without_leaf (Refused p) t = (more_without_leaf old mid new held pairs missed number (Offer p) pairs' 0 0 v.taken w.taken t.taken first t.ends.0, t.ends.1)
-    without_leaf Drained t = (more_without_leaf old mid new held pairs missed number Empty pairs' 0 0 v.taken w.taken t.taken first t.ends.0, t.met, t.ends.1, t.ends.2)
-    without_leaf Memory t = (
-      t.ends.0,
-      t.ends.1,
-      may_lose old new Empty (pairs + pairs') t.ends.0 (missed + 0) w.taken (more_without_leaf old mid new held pairs missed number Empty pairs' t.ends.0 0 v.taken w.taken t.taken first t.ends.2),
-    )
-    without_leaf (Unreturned u) t = more_without_leaf old mid new held pairs missed number (Return u) pairs' 0 1 v.taken w.taken t.taken first t.ends
-
-    same_pairs : (before after : Pocket W) (backs missed' : ℕ) → pairs' ≡ 0 → TurnMakes rows stands mid before after 0 backs missed' new
-        → TurnMakes rows stands mid before after pairs' backs missed' new
-    same_pairs before after backs missed' none makes = subst (λ n. TurnMakes rows stands mid before after n backs missed' new) (sym none) makes
-
-    with_leaf : (answer : Turn W) → TurnWithLeaf rows stands cut mid v held answer pairs' new w → Turned old mid (pairs + pairs') missed answer new w
-    with_leaf Went t =
-        let has = ⊎_elim (λ (none : Went ≡ Memory). absurd (cc)) (λ (h : HasOffer t.ends.0 (get_or cut t.leaf 0) (get_or cut (t.leaf + 1) 0)). h) t.ends.1 in (
-          more_with_leaf old mid new held pairs missed number t.nothing_in_hand v.taken w.taken t.leaf t.takes.joins t.ends.0 Empty pairs' 0 0 has first
-              (same_pairs t.ends.0 Empty 0 0 t.no_pair t.ends.2.0),
-          t.ends.2.1,
-          t.ends.2.2,
-        )
-    with_leaf (Missed after) t =
-        let has = ⊎_elim (λ (none : Missed after ≡ Memory). absurd (cc)) (λ (h : HasOffer t.ends.0 (get_or cut t.leaf 0) (get_or cut (t.leaf + 1) 0)). h) t.ends.1 in (
-          more_with_leaf old mid new held pairs missed number t.nothing_in_hand v.taken w.taken t.leaf t.takes.joins t.ends.0 after pairs' 0 1 has first
-              (same_pairs t.ends.0 after 0 1 t.no_pair t.ends.2),
-          t.ends.2.seen,
-        )
-    with_leaf (Refused p) t =
-        let has = ⊎_elim (λ (none : Refused p ≡ Memory). absurd (cc)) (λ (h : HasOffer t.ends.0 (get_or cut t.leaf 0) (get_or cut (t.leaf + 1) 0)). h) t.ends.1 in (
-          more_with_leaf old mid new held pairs missed number t.nothing_in_hand v.taken w.taken t.leaf t.takes.joins t.ends.0 (Offer p) pairs' 0 0 has first
-              (same_pairs t.ends.0 (Offer p) 0 0 t.no_pair t.ends.2.0),
-          t.ends.2.1,
-        )
-    with_leaf Drained t = absurd t.undrained
-    with_leaf Memory t = (
-      t.ends.2.0,
-      t.ends.2.1,
-      leaf_lost old mid new held pairs missed number t.nothing_in_hand v.taken w.taken t.leaf t.takes.joins t.ends.0 Empty pairs' t.ends.2.0 0 first
-          (same_pairs t.ends.0 Empty t.ends.2.0 0 t.no_pair t.ends.2.2),
-    )
-    with_leaf (Unreturned u) t =
-        let has = ⊎_elim (λ (none : Unreturned u ≡ Memory). absurd (cc)) (λ (h : HasOffer t.ends.0 (get_or cut t.leaf 0) (get_or cut (t.leaf + 1) 0)). h) t.ends.1 in
-        more_with_leaf old mid new held pairs missed number t.nothing_in_hand v.taken w.taken t.leaf t.takes.joins t.ends.0 (Return u) pairs' 0 1 has first
-        (same_pairs t.ends.0 (Return u) 0 1 t.no_pair t.ends.2)
-
-    pub turned : (answer : Turn W) → TakesTurn rows stands cut mid v held answer pairs' new w → Turned old mid (pairs + pairs') missed answer new w
-    turned answer t = ⊎_elim (λ (l : TurnWithLeaf rows stands cut mid v held answer pairs' new w). with_leaf answer l)
-        (λ (n : TurnWithoutLeaf rows stands mid v held answer pairs' new w). without_leaf answer n) t
-
-  pub nothing_yet : (old : SeatSeen F) (taken : List ℕ) → old.taken ≡ [] → taken ≡ [] → Account rows stands cut old Empty 0 0 0 0 old taken
-  nothing_yet old taken claims none =
-      subst (λ ys. Account rows stands cut old Empty 0 0 0 0 old ys) (sym none)
-      (record {
-        makes = kept_in_hand rows stands old old Empty 0 refl (omega arith) (omega arith) (omega arith) claims;
-        leaves = λ k within. absurd (omega arith);
-      })
+    -- a pair that could not be put back is two pieces in hand
+    pub stops_unreturned : (end : WorkEnd) → loses answer ≡ 0 → misses answer ≡ 1
+        → ((end ≡ ending.Idle) × (missed + 1 ≡ 1000000)) ⊎ ((end ≡ ending.Memory) × (missed + 1 ≢ 1000000))
+        → Stops rows stands cut old (left_by answer) end new
+    stops_unreturned end none_lost one_missed cause = ⊎_elim
+        (λ (idle : (end ≡ ending.Idle) × (missed + 1 ≡ 1000000)).
+        subst (λ e. Stops rows stands cut old (left_by answer) e new) (sym idle.0)
+        (stops ending.Idle (omega arith) tt (λ is. omega arith, λ is. refl)))
+        (λ (memory : (end ≡ ending.Memory) × (missed + 1 ≢ 1000000)).
+        subst (λ e. Stops rows stands cut old (left_by answer) e new) (sym memory.0)
+        (stops ending.Memory (omega arith) tt (λ is. absurd (cc), λ is. absurd (memory.1 (omega arith)))))
+        cause
 
 few_of : (test : Logged → Bool) (es : List Logged) → count_by test es ≤ length es
 few_of test es =
@@ -212,11 +224,11 @@ few_of test es =
     one_at_most false = omega arith
 
 -- the pairs of an account are among the seat's entries
-pub pairs_within : {F W : Type 0} (rows : F → ℕ) (stands : F → ℕ → ℕ → W → Type 0) (cut : List ℕ) (old new : SeatSeen F) (pocket : Pocket W) (pairs missed : ℕ) (taken : List ℕ)
-    → Account rows stands cut old pocket pairs 0 missed 0 new taken → pairs ≤ length new.mine
-pairs_within rows stands cut old new pocket pairs missed taken account =
-    let grown : length new.mine ≡ length old.mine + length account.makes.gained = ap (λ es. length es) account.makes.mine ∙ length-append old.mine account.makes.gained in
-    omega (arith, few_of is_pair account.makes.gained, account.makes.pairs_are)
+pub pairs_within : {F W : Type 0} (cut : List ℕ) (old new : SeatSeen F) (hand : View) (pocket : List (Piece W)) (pairs lost : ℕ)
+    → WorkAccount cut old new hand pocket pairs lost → pairs ≤ length new.mine
+pairs_within cut old new hand pocket pairs lost account =
+    let grown : length new.mine ≡ length old.mine + length account.gained = ap (λ es. length es) account.mine ∙ length-append old.mine account.gained in
+    omega (arith, few_of is_pair account.gained, account.pairs_are)
 
 pub same_seat_on : {F : Type 0} (a b c : SeatSeen F) → IsSameSeat a b → IsSameSeat b c → IsSameSeat a c
 same_seat_on a b c first second = record {
@@ -231,3 +243,15 @@ same_seat_on a b c first second = record {
 
 pub same_seat : {F : Type 0} (a : SeatSeen F) → IsSameSeat a a
 same_seat a = record { table = refl; plan = refl; rows = refl; room = refl; callers = refl; number = refl; spare = refl }
+
+-- a worker that has no room for a pocket
+module _ {F W : Type 0} (cut : List ℕ) (old : SeatSeen F) (hand : View) where
+  pub no_room : old.taken ≡ [] → hand.taken ≡ [] → WorkAccount {W = W} cut old old hand [] 0 (lost ending.Memory)
+  no_room claims none = record {
+    gained = [];
+    mine = sym (append-nil old.mine);
+    pairs_are = refl;
+    few_backs = omega arith;
+    leaves = λ k within. absurd (omega (arith, ap (λ ys. length ys) none));
+    claims = λ c has. absurd (none_in c (subst (λ cs. Contains cs c) claims has));
+  }

@@ -4,8 +4,7 @@ pub mod Longest
 pub mod Walking
 pub mod Turning
 pub mod Taking
+pub mod WorkerTurns
 pub mod Accounting
-pub mod Stopping
-pub mod Finishing
 pub mod Costs
 pub mod Sharing

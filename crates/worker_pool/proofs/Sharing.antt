@@ -1,13 +1,17 @@
 -- Seats and hands given out one by one, and pockets put together.
-use Rattle.std.proofs.Common.{◌≡◌, ℕ, ◌+◌, ◌-◌, ◌<◌, ◌≤◌, List, [], ◌∷◌, ◌++◌, map, length, get_or, refl, ap, sym, subst, ◌∙◌, arith, length-append, Some}
-use Rattle.std.specs.List.{All, range_with_len}
+use Rattle.std.proofs.Common.{◌≡◌, ℕ, ◌+◌, ◌-◌, ◌<◌, List, [], ◌∷◌, ◌++◌, length, get_or, refl, ap, sym, subst, ◌∙◌, arith, length-append, append-nil}
+use Rattle.std.specs.List.{All}
 use Rattle.std.proofs.lemmas.List.FromFn.{get_or-map-range_with_len, length-map-range_with_len}
 use Rattle.std.proofs.Math.Seq.{get_or-append_seam}
 use Rattle.atomic_table.specs.Seated.{TableId}
-use Rattle.steal_deal.specs.Hands.{HandSeen, BlocksSeen, IsDealtWith, new_hand, new_hands}
-use Rattle.board_table.specs.Seen.{SeatSeen, IsReady, new_seat}
-use Rattle.worker_pool.specs.declared.solving.Job.{Job}
+use Rattle.steal_deal.specs.Hands.{HandSeen, BlocksSeen, new_hand, new_hands}
+use Rattle.board_table.specs.Seen.{SeatSeen, new_seat}
 use Rattle.worker_pool.specs.Jobs.{MayShare, IsJob}
+
+-- what a loop has gone over, when nothing is left
+pub all_gone_over : {X : Type 0} (xs ys zs : List X) → xs ≡ ys ++ zs → length zs ≡ 0 → xs ≡ ys
+all_gone_over xs ys [] e none = e ∙ append-nil ys
+all_gone_over xs ys (z ∷ zs) e none = absurd (omega arith)
 
 module _ {X : Type 0} (P : X → Type 0) where
   -- what holds of each element holds of the one at which a loop stands

@@ -1,6 +1,6 @@
 -- Leaves that are taken: each is new, and they are no more than were dealt.
-use Rattle.std.proofs.Common.{◌≡◌, ◌≢◌, ℕ, zero, suc, ◌+◌, ◌<◌, ◌≤◌, ◌==◌, nat_lt, Bool, cond, List, [], ◌∷◌, ◌++◌, length, refl, ap, sym, subst, ◌∙◌, arith, ⊎_elim, length-append}
-use Rattle.std.specs.Prelude.{count_by, sum_by}
+use Rattle.std.proofs.Common.{◌≡◌, ◌≢◌, ℕ, zero, suc, ◌+◌, ◌<◌, ◌≤◌, ◌==◌, nat_lt, Bool, cond, List, [], ◌∷◌, ◌++◌, length, refl, ap, sym, subst, ◌∙◌, arith, ⊎_elim}
+use Rattle.std.specs.Prelude.{count_by}
 use Rattle.std.specs.List.{All}
 use Rattle.std.proofs.lemmas.List.Sums.{sum_by-cons}
 use Rattle.std.proofs.lemmas.List.Elements.{All-push, All-head, All-tail}
@@ -9,7 +9,7 @@ use Rattle.steal_deal.specs.declared.view.View.{View}
 use Rattle.steal_deal.specs.declared.hand.Drawn.{Drawn}
 use Rattle.steal_deal.specs.declared.hand.Drawn.TheVariants as drawn
 use Rattle.steal_deal.specs.Views.{copies}
-use Rattle.steal_deal.specs.Draws.{Draws, HasMet, GivesLeaf, IsLowestLeft}
+use Rattle.steal_deal.specs.Draws.{Draws, HasMet, IsLowestLeft}
 use Rattle.steal_deal.proofs.Counting.{part-le-sum_by, copies_push-same, copies_push-other}
 use Rattle.steal_deal.proofs.Keeping.{number_kept, partition_kept, taken_grown, taken_kept, met_kept, met_by_empty}
 use Rattle.worker_pool.specs.Leaves.{AreDealt, TakesLeaf}

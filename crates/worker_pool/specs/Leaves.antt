@@ -1,5 +1,5 @@
 -- The leaves that a worker takes.
-use Rattle.std.specs.Prelude.{ℕ, ◌≡◌, ◌+◌, ◌<◌, ◌≤◌, List, [], ◌∷◌, ◌++◌, length}
+use Rattle.std.specs.Prelude.{ℕ, ◌≡◌, ◌<◌, ◌≤◌, [], ◌∷◌, ◌++◌}
 use Rattle.std.specs.List.{All}
 use Rattle.steal_deal.specs.declared.view.View.{View}
 use Rattle.steal_deal.specs.declared.hand.Drawn.{Drawn}

@@ -4,6 +4,7 @@ pub mod Slots
 pub mod Pockets
 pub mod Leaves
 pub mod Turns
-pub mod Accounts
+pub mod Sites
 pub mod Workers
+pub mod Stops
 pub mod Jobs

@@ -1,7 +1,6 @@
 -- What a worker has in hand: pieces that stand, and the claim that goes with a pair.
 use Rattle.std.specs.Prelude.{ℕ, ◌≡◌, ◌<◌, List, [], ◌∷◌, Option}
 use Rattle.interval_kit.specs.declared.piece.Piece.{Piece}
-use Rattle.board_core.specs.declared.taken.Taken.{Taken}
 use Rattle.board_core.specs.Board.{piece_at, claim_of}
 use Rattle.board_table.specs.Seen.{SeatSeen}
 use Rattle.board_table.specs.Answers.{StandsIn, IsWithin, IsPair}

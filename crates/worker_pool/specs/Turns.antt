@@ -1,6 +1,6 @@
 -- What one turn of a worker does to its seat, and what is in hand after it.
-use Rattle.std.specs.Prelude.{ℕ, ◌≡◌, ◌⊎◌, ◌+◌, ◌*◌, ◌<◌, ◌≤◌, Bool, true, false}
-use Rattle.std.specs.Prelude.{List, [], ◌∷◌, ◌++◌, length, count_by, sum_by, slice_index}
+use Rattle.std.specs.Prelude.{ℕ, ◌≡◌, ◌⊎◌, ◌+◌, ◌<◌, ◌≤◌, Bool, true, false}
+use Rattle.std.specs.Prelude.{List, ◌++◌, length, count_by}
 use Rattle.std.specs.List.{Contains}
 use Rattle.interval_kit.specs.declared.piece.Piece.{Piece}
 use Rattle.board_core.specs.declared.event.Event.{Event}
@@ -19,9 +19,6 @@ use Rattle.worker_pool.specs.declared.pocket.Pocket.{Pocket}
 use Rattle.worker_pool.specs.declared.pocket.Pocket.TheVariants.{Empty, Offer, Return}
 use Rattle.worker_pool.specs.declared.turn.Turn.{Turn}
 use Rattle.worker_pool.specs.declared.turn.Turn.TheVariants.{Went, Missed, Refused, Drained, Memory, Unreturned}
-use Rattle.steal_deal.specs.declared.view.View.{View}
-use Rattle.worker_pool.specs.Walk.{leaf_rows}
-use Rattle.worker_pool.specs.Leaves.{HasMetAll, TakesLeaf}
 use Rattle.worker_pool.specs.Pockets.{HasOffer, IsInHand}
 
 abbrev pub is_pair_reply : Reply → Bool
@@ -44,13 +41,32 @@ is_put_back e = is_put_back_event e.event
 abbrev pub HasKept : List Logged → ℕ → ℕ → ℕ → Type 0
 HasKept entries who lo hi = Contains entries (entry who (event.Offer lo hi) reply.Kept)
 
-abbrev pub IsNotDrained : {W : Type 0} → Turn W → Type 0
-IsNotDrained Drained = ⊥
-IsNotDrained answer = Unit {0}
+module _ {W : Type 0} where
+  abbrev pub IsNotDrained : Turn W → Type 0
+  IsNotDrained Drained = ⊥
+  IsNotDrained answer = Unit {0}
 
-abbrev pub IfDrained : {W : Type 0} → Turn W → Type 0 → Type 0
-IfDrained Drained P = P
-IfDrained answer P = Unit {0}
+  abbrev pub IfDrained : Turn W → Type 0 → Type 0
+  IfDrained Drained P = P
+  IfDrained answer P = Unit {0}
+
+  -- what is in hand after the turn
+  abbrev pub left_by : Turn W → Pocket W
+  left_by (Missed pocket) = pocket
+  left_by (Refused p) = Offer p
+  left_by (Unreturned t) = Return t
+  left_by answer = Empty
+
+  -- how often the turn missed the board
+  abbrev pub misses : Turn W → ℕ
+  misses (Missed pocket) = 1
+  misses (Unreturned t) = 1
+  misses answer = 0
+
+  -- how many leaves the turn may have lost, and how many pairs it may have put back
+  abbrev pub loses : Turn W → ℕ
+  loses Memory = 1
+  loses answer = 0
 
 module _ {F : Type 0} where
   -- a claim on the log that the seat has seen gets no pair
@@ -68,15 +84,23 @@ module _ {F : Type 0} where
         ⊎ Offers (replay_at seat seat.seen) seat.number (blank p) (on_offer.Full (blank p))
         (replay_at seat seat.seen)
 
+    -- what the answer tells: progress, or why there is none
+    abbrev pub Tells : SeatSeen F → Turn W → SeatSeen F → Type 0
+    Tells old Went new = (length old.seen < length new.seen) × (length new.seen ≤ new.room)
+    Tells old (Refused p) new = IsRefused new p
+    Tells old Drained new = (old.won < new.won) × GetsNoPair new
+    Tells old answer new = Unit {0}
+
     module _ (rows : F → ℕ) (stands : F → ℕ → ℕ → W → Type 0) where
-      -- the entries that the seat gained, with so many pairs and pairs put back among them, how
-      -- often it missed the board, and that a piece to offer was kept or is still in hand
+      -- the entries that the seat gained, with so many pairs and at most so many pairs put back
+      -- among them, how often it missed the board, and that a piece to offer was kept or is still
+      -- in hand
       pub record TurnMakes (old : SeatSeen F) (before after : Pocket W) (pairs backs missed : ℕ)
           (new : SeatSeen F) : Type 0 where
         pub gained : List Logged
         pub mine : new.mine ≡ old.mine ++ gained
         pub pairs_are : count_by is_pair gained ≡ pairs
-        pub backs_are : count_by is_put_back gained ≡ backs
+        pub few_backs : count_by is_put_back gained ≤ backs
         pub missed_are : new.missed ≡ old.missed + missed
         pub won : old.won ≤ new.won
         pub seen : length old.seen ≤ length new.seen
@@ -84,49 +108,14 @@ module _ {F : Type 0} where
             → HasKept gained new.number lo hi ⊎ HasOffer after lo hi
         pub in_hand : IsInHand rows stands new after
 
-      abbrev pub TurnEnds : SeatSeen F → Pocket W → ℕ → Turn W → SeatSeen F → Type 0
-      TurnEnds old before pairs Went new =
-          TurnMakes old before Empty pairs 0 0 new
-          × (length old.seen < length new.seen) × (length new.seen ≤ new.room)
-      TurnEnds old before pairs (Missed after) new = TurnMakes old before after pairs 0 1 new
-      TurnEnds old before pairs (Refused p) new =
-          TurnMakes old before (Offer p) pairs 0 0 new × IsRefused new p
-      TurnEnds old before pairs Drained new =
-          TurnMakes old before Empty pairs 0 0 new × (old.won < new.won) × GetsNoPair new
-      TurnEnds old before pairs Memory new =
-          (backs : ℕ) × (backs ≤ 1) × TurnMakes old before Empty pairs backs 0 new
-      TurnEnds old before pairs (Unreturned t) new =
-          TurnMakes old before (Return t) pairs 0 1 new
+      pub record TurnEnds (old : SeatSeen F) (before : Pocket W) (pairs : ℕ) (answer : Turn W)
+          (new : SeatSeen F) : Type 0 where
+        pub makes : TurnMakes old before (left_by answer) pairs (loses answer) (misses answer) new
+        pub tells : Tells old answer new
 
-      -- the leaf lo..hi was offered, or there was no memory for it
-      abbrev pub LeafEnds : SeatSeen F → ℕ → ℕ → Turn W → SeatSeen F → Type 0
-      LeafEnds old lo hi answer new = (before : Pocket W)
-          × ((answer ≡ Memory) ⊎ HasOffer before lo hi) × TurnEnds old before 0 answer new
-
-      -- no leaf was drawn
-      pub record TurnWithoutLeaf (old : SeatSeen F) (v : View) (before : Pocket W) (answer : Turn W)
-          (pairs : ℕ) (new : SeatSeen F) (w : View) : Type 0 where
-        pub taken : w.taken ≡ v.taken
-        pub number : w.number ≡ v.number
-        pub met : IfDrained answer (HasMetAll w)
-        pub ends : TurnEnds old before pairs answer new
-
-      -- a leaf was drawn, since nothing was in hand
-      pub record TurnWithLeaf (cut : List ℕ) (old : SeatSeen F) (v : View) (before : Pocket W)
-          (answer : Turn W) (pairs : ℕ) (new : SeatSeen F) (w : View) : Type 0 where
-        pub leaf : ℕ
-        pub takes : TakesLeaf v leaf w
-        pub nothing_in_hand : before ≡ Empty
-        pub undrained : IsNotDrained answer
-        pub no_pair : pairs ≡ 0
-        pub ends : LeafEnds old (slice_index cut leaf) (slice_index cut (leaf + 1)) answer new
-
-      abbrev pub TakesTurn : List ℕ → SeatSeen F → View → Pocket W → Turn W → ℕ → SeatSeen F
-          → View → Type 0
-      TakesTurn cut old v before answer pairs new w =
-          TurnWithLeaf cut old v before answer pairs new w
-          ⊎ TurnWithoutLeaf old v before answer pairs new w
-
--- the leaves that a hand has taken, and joins of so many pairs
-abbrev pub spent : (ℕ → ℕ) → ℕ → List ℕ → View → ℕ → ℕ
-spent leaf join cut v pairs = sum_by (λ y. leaf (leaf_rows cut y)) v.taken + pairs * join
+      -- the leaf lo..hi was kept or is to be offered, or there was no memory for it
+      pub record LeafEnds (old : SeatSeen F) (lo hi : ℕ) (answer : Turn W)
+          (new : SeatSeen F) : Type 0 where
+        pub ends : TurnEnds old Empty 0 answer new
+        pub accounted : loses answer ≡ 0
+            → HasKept ends.makes.gained new.number lo hi ⊎ HasOffer (left_by answer) lo hi

@@ -8,6 +8,7 @@ mod drawing;
 mod gate;
 mod gathering;
 mod pocket;
+mod site;
 mod slots;
 mod solving;
 mod stepping;

@@ -1,14 +1,17 @@
 //! The value of all rows, by workers that run beside each other where threads can be started.
 
-ghost use Rattle.std.specs.Prelude.{◌≡◌, ◌+◌, ◌*◌, ◌≤◌, ◌<◌, Some, [], length, IfOk, All};
+ghost use Rattle.std.specs.Prelude.{◌≡◌, ◌+◌, ◌*◌, ◌≤◌, ◌<◌, ◌++◌, Some, [], length, IfOk, All};
+ghost use Rattle.std.specs.List.{flat_map};
 ghost use Rattle.interval_kit.specs.Cut.{IsCut};
 ghost use Rattle.steal_deal.specs.Hands.{new_hands};
 ghost use Rattle.board_table.specs.Seen.{IsReady};
 ghost use Rattle.worker_pool.specs.Jobs.{IsGoodDone, IsJob, MayShare};
+ghost use Rattle.worker_pool.specs.Sites.{IsSite};
 ghost use Rattle.worker_pool.specs.Walk.{IsGood, cut_cost};
 
 use crate::gate::Gate;
 use crate::gathering::gather;
+use crate::site::Site;
 use crate::working::{Done, work};
 use board_table::{Board, Leftover, Seat, start};
 use interval_kit::{Cut, Fused, Piece};
@@ -48,7 +51,13 @@ pub fn solve<R: Threads + Sync, F: Fused + Sync, G: Gate + Sync, L: Ledger>(
     let (board, seat) = start(alloc, plan, room, workers + 1)?;
     let Dealt { blocks, hands } = deal(alloc, leaves, workers)?;
     let (seat, jobs) = share_out(alloc, plan, &board, seat, &blocks, hands)?;
-    let done = run(rt, alloc, plan, cut, &board, &blocks, jobs, gate)?;
+    let site = Site {
+        plan,
+        cut,
+        board: &board,
+        blocks: &blocks,
+    };
+    let done = run(rt, alloc, &site, jobs, gate)?;
     let held = held_on(alloc, plan, board, seat);
     let pieces = with_pockets(plan, held, done)?;
     gather(alloc, plan, cut, pieces, steps)
@@ -75,6 +84,7 @@ fn share_out<F: Fused>(
     requires hands { hands.items ≡ new_hands blocks.now }
     requires few_workers { blocks.now.partition.workers ≤ MOST_WORKERS }
     ensures seat { IfOk result (λ r. MayShare board.now plan.now 0 r.0) }
+    ensures each_hand { IfOk result (λ r. length r.1.items ≡ blocks.now.partition.workers) }
     ensures jobs { IfOk result (λ r. All (IsJob board.now plan.now blocks.now) r.1.items) }
 {
     let mut jobs = Vec::with_capacity(alloc, hands.len())?;
@@ -96,53 +106,39 @@ fn share_out<F: Fused>(
 fn run<R: Threads + Sync, F: Fused + Sync, G: Gate + Sync>(
     rt: &R,
     alloc: Global,
-    plan: &F,
-    cut: &Cut,
-    board: &Board<F>,
-    blocks: &Blocks,
+    site: &Site<F>,
     jobs: Vec<Job<F>>,
     gate: &G,
 ) -> Result<Vec<Done<F>>, AllocError>
-    requires cut { IsCut (F.rows plan.now) cut.now }
-    requires leaves { blocks.now.partition.count < length cut.now }
-    requires jobs { All (IsJob board.now plan.now blocks.now) jobs.items }
-    ensures { IfOk result (λ done. All (IsGoodDone F.rows F.stands plan.now) done.items) }
+    requires site { IsSite F.rows site.now }
+    requires jobs { All (IsJob site.now.board.now site.now.plan.now site.now.blocks.now) jobs.items }
+    requires each_hand { length jobs.items ≡ site.now.blocks.now.partition.workers }
+    ensures done { IfOk result (λ done. All (IsGoodDone F.rows F.stands site.now.plan.now) done.items) }
+    ensures each_job { IfOk result (λ done. length done.items ≡ length jobs.items) }
 {
     map_vec(
         rt,
         jobs,
         &|job: Job<F>| -> Done<F>
-            requires { IsCut (F.rows plan.now) cut.now × (blocks.now.partition.count < length cut.now)
-                × IsJob board.now plan.now blocks.now job }
-            ensures { IsGoodDone F.rows F.stands plan.entry.now result }
-        { work_alone(alloc, plan, cut, board, blocks, job, gate) },
+            requires { IsSite F.rows site.now
+                × IsJob site.now.board.now site.now.plan.now site.now.blocks.now job }
+            ensures { IsGoodDone F.rows F.stands site.entry.now.plan.now result }
+        { work_alone(alloc, site, job, gate) },
     )
 }
 
 /// Works with a counter of its own, since the workers' steps aren't added up.
-fn work_alone<F: Fused, G: Gate>(
-    alloc: Global,
-    plan: &F,
-    cut: &Cut,
-    board: &Board<F>,
-    blocks: &Blocks,
-    job: Job<F>,
-    gate: &G,
-) -> Done<F>
-    requires cut { IsCut (F.rows plan.now) cut.now }
-    requires leaves { blocks.now.partition.count < length cut.now }
-    requires job { IsJob board.now plan.now blocks.now job }
-    ensures { IsGoodDone F.rows F.stands plan.now result }
+fn work_alone<F: Fused, G: Gate>(alloc: Global, site: &Site<F>, job: Job<F>, gate: &G) -> Done<F>
+    requires site { IsSite F.rows site.now }
+    requires job { IsJob site.now.board.now site.now.plan.now site.now.blocks.now job }
+    ensures { IsGoodDone F.rows F.stands site.now.plan.now result }
 {
-    work_counted::<F, G, Brand>(alloc, plan, cut, board, blocks, job, gate, Blank::new(1))
+    work_counted::<F, G, Brand>(alloc, site, job, gate, Blank::new(1))
 }
 
 fn work_counted<F: Fused, G: Gate, L: Ledger>(
     alloc: Global,
-    plan: &F,
-    cut: &Cut,
-    board: &Board<F>,
-    blocks: &Blocks,
+    site: &Site<F>,
     job: Job<F>,
     gate: &G,
     blank: Blank,
@@ -150,12 +146,12 @@ fn work_counted<F: Fused, G: Gate, L: Ledger>(
     requires same_name { blank.name ≡ L.name }
     requires same_parts { blank.parts ≡ L.parts }
     requires some_part { 0 < blank.parts }
-    requires cut { IsCut (F.rows plan.now) cut.now }
-    requires leaves { blocks.now.partition.count < length cut.now }
-    requires job { IsJob board.now plan.now blocks.now job }
-    ensures { IsGoodDone F.rows F.stands plan.now result }
+    requires site { IsSite F.rows site.now }
+    requires job { IsJob site.now.board.now site.now.plan.now site.now.blocks.now job }
+    ensures { IsGoodDone F.rows F.stands site.now.plan.now result }
 {
     let mut steps = Steps::<L>::new(blank);
+    let (plan, cut, board, blocks) = (site.plan, site.cut, site.board, site.blocks);
     let Job { seat, hand, worker } = job;
     work(
         alloc, plan, cut, board, seat, blocks, hand, worker, gate, &mut steps,
@@ -192,8 +188,10 @@ fn with_pockets<F: Fused>(
 ) -> Result<Vec<Piece<F::Value>>, AllocError>
     requires pieces { All (IsGood (F.rows plan.now) (F.stands plan.now)) pieces.items }
     requires done { All (IsGoodDone F.rows F.stands plan.now) done.items }
-    ensures { IfOk result
+    ensures good { IfOk result
         (λ pieces. All (IsGood (F.rows plan.now) (F.stands plan.now)) pieces.items) }
+    ensures all { IfOk result
+        (λ all. all.items ≡ pieces.items ++ flat_map (λ d. d.pocket.items) done.items) }
 {
     for worker in done {
         let mut pocket = worker.pocket;

@@ -1,118 +1,83 @@
 //! One turn of a worker: what it has in hand goes first, then a leaf, then a pair.
 
-ghost use Rattle.std.specs.Prelude.{◌≡◌, ◌+◌, ◌-◌, ◌<◌, ◌≤◌, Some, [], length};
-ghost use Rattle.interval_kit.specs.Cut.{IsCut};
-ghost use Rattle.steal_deal.specs.Hands.{IsDealtWith};
-ghost use Rattle.board_table.specs.Seen.{IsReady, IsSameSeat};
-ghost use Rattle.worker_pool.specs.Leaves.{AreDealt};
+ghost use Rattle.std.specs.Prelude.{◌≡◌, ◌+◌, ◌^◌, ◌<◌, ◌≤◌, [], length, slice_index};
+ghost use Rattle.std.specs.List.Sorted.{IsStrictlyIncreasing};
+ghost use Rattle.board_table.specs.Seen.{IsSameSeat};
 ghost use Rattle.worker_pool.specs.Pockets.{IsInHand};
-ghost use Rattle.worker_pool.specs.Turns.{TakesTurn, spent};
+ghost use Rattle.worker_pool.specs.Sites.{IsAtWork, IsSite, TakesTurn, spent_by};
 
 use crate::drawing::draw;
 use crate::pocket::Pocket;
+use crate::site::{Site, Worker};
 use crate::turn::{Turn, leaf, offer, pair, put_back, settle};
-use board_table::{Board, Seat};
 use interval_kit::Fused;
 use std::alloc::Global;
 use std::sync::ledger::Ledger;
-use steal_deal::{Blocks, Drawn, Hand};
+use steal_deal::Drawn;
 use step_count::Steps;
-
-/// How many leaves a worker took, and how many pairs it claimed.
-#[derive(Drop)]
-pub(crate) struct Counts {
-    pub leaves: u32,
-    pub pairs: u32,
-}
 
 /// Tries to deliver what is in hand. With nothing in hand, begins something new.
 pub(crate) fn take_turn<F: Fused, L: Ledger>(
     alloc: Global,
-    plan: &F,
-    bounds: &[u32],
-    board: &Board<F>,
-    seat: &mut Seat<F>,
-    blocks: &Blocks,
-    hand: &mut Hand,
+    site: &Site<F>,
+    worker: &mut Worker<F>,
     pocket: Pocket<F::Value>,
-    counts: &mut Counts,
     steps: &mut Steps<L>,
 ) -> Turn<F::Value>
-    requires ready { IsReady board.now seat.old }
-    requires plan { seat.old.plan ≡ Some plan.now }
-    requires cut { IsCut (F.rows plan.now) bounds.now }
-    requires leaves { blocks.now.partition.count < length bounds.now }
-    requires hand { IsDealtWith blocks.now hand.old }
-    requires in_hand { IsInHand F.rows F.stands seat.old pocket }
-    requires taken { AreDealt hand.old.view }
-    requires leaves_counted { counts.old.leaves ≡ length hand.old.view.taken }
-    requires pairs_counted { counts.old.pairs ≤ length seat.old.mine }
-    ensures ready { IsReady board.now seat.new }
-    ensures same { IsSameSeat seat.old seat.new }
-    ensures hand { IsDealtWith blocks.now hand.new }
-    ensures taken { AreDealt hand.new.view }
-    ensures leaves_counted { counts.new.leaves ≡ length hand.new.view.taken }
-    ensures pairs_counted { counts.old.pairs ≤ counts.new.pairs }
-    ensures turn { TakesTurn F.rows F.stands bounds.now seat.old hand.old.view pocket result
-        (counts.new.pairs - counts.old.pairs) seat.new hand.new.view }
-    ensures cost { steps.new
-        + spent (F.leaf_bound plan.now) (F.join_bound plan.now) bounds.now hand.old.view
-        counts.old.pairs
-        ≤ steps.old
-        + spent (F.leaf_bound plan.now) (F.join_bound plan.now) bounds.now hand.new.view
-        counts.new.pairs }
+    requires site { IsSite F.rows site.now }
+    requires at_work { IsAtWork site.now worker.old }
+    requires in_hand { IsInHand F.rows F.stands worker.old.seat pocket }
+    requires counted { worker.old.pairs ≤ length worker.old.seat.mine }
+    ensures at_work { IsAtWork site.now worker.new }
+    ensures same { IsSameSeat worker.old.seat worker.new.seat }
+    ensures turn { TakesTurn F.rows F.stands site.now.cut.now worker.old pocket result worker.new }
+    ensures cost { steps.new + spent_by F.leaf_bound F.join_bound site.now worker.old
+        ≤ steps.old + spent_by F.leaf_bound F.join_bound site.now worker.new }
 {
     match pocket {
-        Pocket::Empty => begin(
-            alloc, plan, bounds, board, seat, blocks, hand, counts, steps,
-        ),
-        Pocket::Offer(piece) => offer(board, seat, piece),
-        Pocket::Settle(taken, value) => settle(board, seat, taken, value),
-        Pocket::Return(taken) => put_back(board, seat, taken),
+        Pocket::Empty => begin(alloc, site, worker, steps),
+        Pocket::Offer(piece) => offer(site.board, &mut worker.seat, piece),
+        Pocket::Settle(taken, value) => settle(site.board, &mut worker.seat, taken, value),
+        Pocket::Return(taken) => put_back(site.board, &mut worker.seat, taken),
     }
 }
 
 /// Draws a leaf and computes it. Where no leaf is left, claims a pair.
 fn begin<F: Fused, L: Ledger>(
     alloc: Global,
-    plan: &F,
-    bounds: &[u32],
-    board: &Board<F>,
-    seat: &mut Seat<F>,
-    blocks: &Blocks,
-    hand: &mut Hand,
-    counts: &mut Counts,
+    site: &Site<F>,
+    worker: &mut Worker<F>,
     steps: &mut Steps<L>,
 ) -> Turn<F::Value>
-    requires ready { IsReady board.now seat.old }
-    requires plan { seat.old.plan ≡ Some plan.now }
-    requires cut { IsCut (F.rows plan.now) bounds.now }
-    requires leaves { blocks.now.partition.count < length bounds.now }
-    requires hand { IsDealtWith blocks.now hand.old }
-    requires in_hand { seat.old.taken ≡ [] }
-    requires taken { AreDealt hand.old.view }
-    requires leaves_counted { counts.old.leaves ≡ length hand.old.view.taken }
-    requires pairs_counted { counts.old.pairs ≤ length seat.old.mine }
-    ensures ready { IsReady board.now seat.new }
-    ensures same { IsSameSeat seat.old seat.new }
-    ensures hand { IsDealtWith blocks.now hand.new }
-    ensures taken { AreDealt hand.new.view }
-    ensures leaves_counted { counts.new.leaves ≡ length hand.new.view.taken }
-    ensures pairs_counted { counts.old.pairs ≤ counts.new.pairs }
-    ensures turn { TakesTurn F.rows F.stands bounds.now seat.old hand.old.view Pocket.Empty result
-        (counts.new.pairs - counts.old.pairs) seat.new hand.new.view }
-    ensures cost { steps.new
-        + spent (F.leaf_bound plan.now) (F.join_bound plan.now) bounds.now hand.old.view
-        counts.old.pairs
-        ≤ steps.old
-        + spent (F.leaf_bound plan.now) (F.join_bound plan.now) bounds.now hand.new.view
-        counts.new.pairs }
+    requires site { IsSite F.rows site.now }
+    requires at_work { IsAtWork site.now worker.old }
+    requires none_claimed { worker.old.seat.taken ≡ [] }
+    requires counted { worker.old.pairs ≤ length worker.old.seat.mine }
+    ensures at_work { IsAtWork site.now worker.new }
+    ensures same { IsSameSeat worker.old.seat worker.new.seat }
+    ensures turn { TakesTurn F.rows F.stands site.now.cut.now worker.old Pocket.Empty result
+        worker.new }
+    ensures cost { steps.new + spent_by F.leaf_bound F.join_bound site.now worker.old
+        ≤ steps.old + spent_by F.leaf_bound F.join_bound site.now worker.new }
 {
-    match draw(hand, blocks) {
+    match draw(&mut worker.hand, site.blocks) {
         Drawn::Leaf(number) => {
-            counts.leaves += 1;
-            leaf(alloc, plan, bounds, board, seat, number, steps)
+            let (lo, hi) = leaf_interval(site.cut.bounds(), number);
+            worker.leaves += 1;
+            leaf(alloc, site, &mut worker.seat, lo, hi, steps)
         }
-        Drawn::Empty => pair(alloc, plan, board, seat, &mut counts.pairs, steps),
+        Drawn::Empty => pair(alloc, site, worker, steps),
     }
+}
+
+/// The rows of the leaf of this number. Rising 32-bit bounds are few enough to be counted.
+fn leaf_interval(bounds: &[u32], number: u32) -> (u32, u32)
+    requires rises { IsStrictlyIncreasing bounds.now }
+    requires number { number + 1 < length bounds.now }
+    ensures lo { result.0 ≡ slice_index bounds.now number }
+    ensures hi { result.1 ≡ slice_index bounds.now (number + 1) }
+    ensures few { length bounds.now ≤ 2 ^ 32 }
+{
+    let at = number as usize;
+    (bounds[at], bounds[at + 1])
 }

@@ -1,17 +1,17 @@
 //! One function for each kind of turn. Each tries at most once for each thing that it asks of the
 //! board, and says what is in hand then.
 
-ghost use Rattle.std.specs.Prelude.{◌≡◌, ◌+◌, ◌-◌, ◌*◌, ◌<◌, ◌≤◌};
-ghost use Rattle.std.specs.Prelude.{[], ◌∷◌, Some, length, slice_index};
+ghost use Rattle.std.specs.Prelude.{◌≡◌, ◌+◌, ◌-◌, ◌<◌, ◌≤◌, [], ◌∷◌, Some, length};
 ghost use Rattle.board_core.specs.Board.{claim_of};
 ghost use Rattle.board_table.specs.Answers.{IsPair, StandsIn};
 ghost use Rattle.board_table.specs.Seen.{IsReady, IsSameSeat};
+ghost use Rattle.worker_pool.specs.Leaves.{HasMetAll};
 ghost use Rattle.worker_pool.specs.Pockets.{IsStanding};
 ghost use Rattle.worker_pool.specs.Turns.{IsNotDrained, LeafEnds, TurnEnds};
-ghost use Rattle.worker_pool.specs.Walk.{leaf_rows};
-ghost use Rattle.interval_kit.specs.Cut.{IsCut};
+ghost use Rattle.worker_pool.specs.Sites.{IsAtWork, TakesTurn, spent_by};
 
 use crate::pocket::Pocket;
+use crate::site::{Site, Worker};
 use board_core::Taken;
 use board_table::{Board, Claimed, Offered, PutBack, Seat, Settled};
 use interval_kit::{Fused, Piece};
@@ -100,61 +100,54 @@ pub(crate) fn put_back<F: Fused>(
     }
 }
 
-/// Computes the leaf of this number and offers it.
+/// Computes the leaf `lo..hi` and offers it.
 pub(crate) fn leaf<F: Fused, L: Ledger>(
     alloc: Global,
-    plan: &F,
-    bounds: &[u32],
-    board: &Board<F>,
+    site: &Site<F>,
     seat: &mut Seat<F>,
-    number: u32,
+    lo: u32,
+    hi: u32,
     steps: &mut Steps<L>,
 ) -> Turn<F::Value>
-    requires ready { IsReady board.now seat.old }
+    requires ready { IsReady site.now.board.now seat.old }
     requires taken { seat.old.taken ≡ [] }
-    requires plan { seat.old.plan ≡ Some plan.now }
-    requires cut { IsCut (F.rows plan.now) bounds.now }
-    requires number { number + 1 < length bounds.now }
-    ensures ready { IsReady board.now seat.new }
+    requires plan { seat.old.plan ≡ Some site.now.plan.now }
+    requires nonempty { lo < hi }
+    requires within { hi ≤ F.rows site.now.plan.now }
+    ensures ready { IsReady site.now.board.now seat.new }
     ensures same { IsSameSeat seat.old seat.new }
     ensures undrained { IsNotDrained result }
-    ensures turn { LeafEnds F.rows F.stands seat.old (slice_index bounds.now number)
-        (slice_index bounds.now (number + 1)) result seat.new }
-    ensures cost { steps.new ≤ steps.old + F.leaf_bound plan.now (leaf_rows bounds.now number) }
+    ensures turn { LeafEnds F.rows F.stands seat.old lo hi result seat.new }
+    ensures cost { steps.new ≤ steps.old + F.leaf_bound site.now.plan.now (hi - lo) }
 {
-    let at = number as usize;
-    let (lo, hi) = (bounds[at], bounds[at + 1]);
-    let Ok(value) = plan.leaf(alloc, lo, hi, steps) else {
+    let Ok(value) = site.plan.leaf(alloc, lo, hi, steps) else {
         return Turn::Memory;
     };
-    offer(board, seat, Piece { lo, hi, value })
+    offer(site.board, seat, Piece { lo, hi, value })
 }
 
-/// Claims a pair, joins it and settles it.
+/// Claims a pair, joins it and settles it. Every block was found empty before.
 pub(crate) fn pair<F: Fused, L: Ledger>(
     alloc: Global,
-    plan: &F,
-    board: &Board<F>,
-    seat: &mut Seat<F>,
-    pairs: &mut u32,
+    site: &Site<F>,
+    worker: &mut Worker<F>,
     steps: &mut Steps<L>,
 ) -> Turn<F::Value>
-    requires ready { IsReady board.now seat.old }
-    requires taken { seat.old.taken ≡ [] }
-    requires plan { seat.old.plan ≡ Some plan.now }
-    requires counted { pairs.old ≤ length seat.old.mine }
-    ensures ready { IsReady board.now seat.new }
-    ensures same { IsSameSeat seat.old seat.new }
-    ensures counted { pairs.old ≤ pairs.new }
-    ensures turn { TurnEnds F.rows F.stands seat.old Pocket.Empty (pairs.new - pairs.old) result
-        seat.new }
-    ensures cost { steps.new + pairs.old * F.join_bound plan.now
-        ≤ steps.old + pairs.new * F.join_bound plan.now }
+    requires at_work { IsAtWork site.now worker.old }
+    requires taken { worker.old.seat.taken ≡ [] }
+    requires none_left { HasMetAll worker.old.hand.view }
+    requires counted { worker.old.pairs ≤ length worker.old.seat.mine }
+    ensures at_work { IsAtWork site.now worker.new }
+    ensures same { IsSameSeat worker.old.seat worker.new.seat }
+    ensures turn { TakesTurn F.rows F.stands site.now.cut.now worker.old Pocket.Empty result
+        worker.new }
+    ensures cost { steps.new + spent_by F.leaf_bound F.join_bound site.now worker.old
+        ≤ steps.old + spent_by F.leaf_bound F.join_bound site.now worker.new }
 {
-    match board.claim(seat) {
+    match site.board.claim(&mut worker.seat) {
         Claimed::Pair(taken) => {
-            *pairs += 1;
-            join(alloc, plan, board, seat, taken, steps)
+            worker.pairs += 1;
+            join(alloc, site, &mut worker.seat, taken, steps)
         }
         Claimed::NoPair => Turn::Drained,
         Claimed::Full => Turn::Drained,
@@ -165,25 +158,28 @@ pub(crate) fn pair<F: Fused, L: Ledger>(
 /// Joins the pair and settles it, or puts it back if there is no memory.
 fn join<F: Fused, L: Ledger>(
     alloc: Global,
-    plan: &F,
-    board: &Board<F>,
+    site: &Site<F>,
     seat: &mut Seat<F>,
     taken: Taken<F::Value>,
     steps: &mut Steps<L>,
 ) -> Turn<F::Value>
-    requires ready { IsReady board.now seat.old }
+    requires ready { IsReady site.now.board.now seat.old }
     requires taken { seat.old.taken ≡ claim_of taken ∷ [] }
     requires pair { IsPair F.rows F.stands seat.old.plan taken }
-    requires plan { seat.old.plan ≡ Some plan.now }
-    ensures ready { IsReady board.now seat.new }
+    requires plan { seat.old.plan ≡ Some site.now.plan.now }
+    ensures ready { IsReady site.now.board.now seat.new }
     ensures same { IsSameSeat seat.old seat.new }
+    ensures undrained { IsNotDrained result }
     ensures turn { TurnEnds F.rows F.stands seat.old (Pocket.Return taken) 0 result seat.new }
-    ensures cost { steps.new ≤ steps.old + F.join_bound plan.now }
+    ensures cost { steps.new ≤ steps.old + F.join_bound site.now.plan.now }
 {
     let (left, right) = (&taken.left, &taken.right);
     let (lo, mid, hi) = (left.lo, left.hi, right.hi);
-    match plan.join(alloc, lo, mid, hi, &left.value, &right.value, steps) {
-        Ok(value) => settle(board, seat, taken, value),
-        Err(AllocError) => put_back(board, seat, taken),
+    match site
+        .plan
+        .join(alloc, lo, mid, hi, &left.value, &right.value, steps)
+    {
+        Ok(value) => settle(site.board, seat, taken, value),
+        Err(AllocError) => put_back(site.board, seat, taken),
     }
 }

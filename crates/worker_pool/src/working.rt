@@ -1,19 +1,19 @@
 //! A worker: its turns from the first to the one that ends it.
 //! What it owes is in specs/Workers.antt.
 
-ghost use Rattle.std.specs.Prelude.{◌≡◌, ◌+◌, ◌-◌, ◌<◌, ◌≤◌, ◌≢◌, ◌⊎◌, ◌↔◌, Some, [], length, All};
+ghost use Rattle.std.specs.Prelude.{◌≡◌, ◌+◌, ◌<◌, ◌≤◌, ◌≢◌, ◌⊎◌, ◌↔◌, Some, [], length, All};
 ghost use Rattle.interval_kit.specs.Cut.{IsCut};
 ghost use Rattle.steal_deal.specs.Hands.{IsDealtWith};
 ghost use Rattle.board_table.specs.Seen.{IsReady, IsSameSeat};
-ghost use Rattle.worker_pool.specs.Accounts.{Stops};
-ghost use Rattle.worker_pool.specs.Leaves.{AreDealt};
-ghost use Rattle.worker_pool.specs.Turns.{spent};
+ghost use Rattle.worker_pool.specs.Sites.{IsAtWork, IsSite, spent, spent_by};
+ghost use Rattle.worker_pool.specs.Stops.{Stops};
 ghost use Rattle.worker_pool.specs.Walk.{IsGood};
-ghost use Rattle.worker_pool.specs.Workers.{WorkAccount, WorkEnds};
+ghost use Rattle.worker_pool.specs.Workers.{WorkAccount, WorkEnds, lost};
 
 use crate::gate::Gate;
 use crate::pocket::Pocket;
-use crate::stepping::{Counts, take_turn};
+use crate::site::{Site, Worker};
+use crate::stepping::take_turn;
 use crate::turn::Turn;
 use board_table::{Board, Seat};
 use interval_kit::{Cut, Fused, Piece};
@@ -44,52 +44,38 @@ pub enum WorkEnd {
 
 /// What a worker has in hand at its end.
 #[derive(Drop)]
-pub(crate) struct Stop<V> {
-    pub pocket: Pocket<V>,
-    pub end: WorkEnd,
+struct Stop<V> {
+    pocket: Pocket<V>,
+    end: WorkEnd,
 }
 
 /// Takes turns until one of them ends the worker.
-pub(crate) fn take_turns<F: Fused, G: Gate, L: Ledger>(
+fn take_turns<F: Fused, G: Gate, L: Ledger>(
     alloc: Global,
-    plan: &F,
-    bounds: &[u32],
-    board: &Board<F>,
-    seat: &mut Seat<F>,
-    blocks: &Blocks,
-    hand: &mut Hand,
-    worker: u32,
+    site: &Site<F>,
+    worker: &mut Worker<F>,
+    number: u32,
     gate: &G,
-    counts: &mut Counts,
     steps: &mut Steps<L>,
 ) -> Stop<F::Value>
-    requires ready { IsReady board.now seat.old }
-    requires none_claimed { seat.old.taken ≡ [] }
-    requires plan { seat.old.plan ≡ Some plan.now }
-    requires cut { IsCut (F.rows plan.now) bounds.now }
-    requires leaves { blocks.now.partition.count < length bounds.now }
-    requires hand { IsDealtWith blocks.now hand.old }
-    requires none_taken { hand.old.view.taken ≡ [] }
-    requires nothing_counted { (counts.old.leaves ≡ 0) × (counts.old.pairs ≡ 0) }
-    ensures ready { IsReady board.now seat.new }
-    ensures same { IsSameSeat seat.old seat.new }
-    ensures hand { IsDealtWith blocks.now hand.new }
-    ensures leaves_counted { counts.new.leaves ≡ length hand.new.view.taken }
-    ensures stop { Stops F.rows F.stands bounds.now seat.old result.pocket result.end seat.new
-        hand.new.view counts.new.pairs }
-    ensures cost { steps.new ≤ steps.old
-        + spent (F.leaf_bound plan.now) (F.join_bound plan.now) bounds.now hand.new.view
-        counts.new.pairs }
+    requires site { IsSite F.rows site.now }
+    requires at_work { IsAtWork site.now worker.old }
+    requires none_claimed { worker.old.seat.taken ≡ [] }
+    requires none_taken { worker.old.hand.view.taken ≡ [] }
+    requires none_paired { worker.old.pairs ≡ 0 }
+    ensures at_work { IsAtWork site.now worker.new }
+    ensures same { IsSameSeat worker.old.seat worker.new.seat }
+    ensures stop { Stops F.rows F.stands site.now.cut.now worker.old.seat result.pocket result.end
+        worker.new }
+    ensures cost { steps.new ≤ steps.old + spent_by F.leaf_bound F.join_bound site.now worker.new }
 {
     let mut pocket = Pocket::Empty;
     let mut missed = 0u32;
     let mut turn = 0u64;
     loop {
         turn = turn.saturating_add(1);
-        gate.pass(worker, turn);
-        match take_turn(
-            alloc, plan, bounds, board, seat, blocks, hand, pocket, counts, steps,
-        ) {
+        gate.pass(number, turn);
+        match take_turn(alloc, site, worker, pocket, steps) {
             Turn::Went => pocket = Pocket::Empty,
             Turn::Missed(left) => {
                 missed += 1;
@@ -160,9 +146,9 @@ pub fn work<F: Fused, G: Gate, L: Ledger>(
     plan: &F,
     cut: &Cut,
     board: &Board<F>,
-    mut seat: Seat<F>,
+    seat: Seat<F>,
     blocks: &Blocks,
-    mut hand: Hand,
+    hand: Hand,
     worker: u32,
     gate: &G,
     steps: &mut Steps<L>,
@@ -180,7 +166,7 @@ pub fn work<F: Fused, G: Gate, L: Ledger>(
     ensures hand { IsDealtWith blocks.now result.hand }
     ensures leaves { result.leaves ≡ length result.hand.view.taken }
     ensures account { WorkAccount cut.now seat result.seat result.hand.view result.pocket.items
-        result.pairs result.end }
+        result.pairs (lost result.end) }
     ensures end { WorkEnds seat result.seat result.hand.view result.pocket.items result.end }
     ensures idle { (result.end ≡ WorkEnd.Idle) ↔ (result.seat.missed ≡ seat.missed + MOST_MISSES) }
     ensures pocket { All (IsGood (F.rows plan.now) (F.stands plan.now)) result.pocket.items }
@@ -197,30 +183,31 @@ pub fn work<F: Fused, G: Gate, L: Ledger>(
             end: WorkEnd::Memory,
         };
     };
-    let mut counts = Counts {
+    let site = Site {
+        plan,
+        cut,
+        board,
+        blocks,
+    };
+    let mut at_work = Worker {
+        seat,
+        hand,
         leaves: 0,
         pairs: 0,
     };
-    let bounds = cut.bounds();
-    let stop = take_turns(
-        alloc,
-        plan,
-        bounds,
-        board,
-        &mut seat,
-        blocks,
-        &mut hand,
-        worker,
-        gate,
-        &mut counts,
-        steps,
-    );
+    let stop = take_turns(alloc, &site, &mut at_work, worker, gate, steps);
+    let Worker {
+        seat,
+        hand,
+        leaves,
+        pairs,
+    } = at_work;
     Done {
         seat,
         hand,
         pocket: stop.pocket.into_pieces(room),
-        leaves: counts.leaves,
-        pairs: counts.pairs,
+        leaves,
+        pairs,
         end: stop.end,
     }
 }

@@ -1,6 +1,5 @@
-use Rattle.std.proofs.Common.{◌≡◌, ◌∙◌, ℕ, ◌<◌, refl, ap, subst, sym, arith}
+use Rattle.std.proofs.Common.{◌≡◌, ◌∙◌, refl, ap, sym, arith}
 use Rattle.steal_deal.specs.declared.partition.Partition.{Partition}
-use Rattle.steal_deal.specs.Draws.{HasMet}
 use Rattle.worker_pool.proofs.Taking.{leaf_taken, looked_further, own_looked}
 use Rattle.worker_pool.proofs.drawing.draw.Goals as goal
 

@@ -11,5 +11,6 @@ invariant-loop-hand g l = record {
   rest : l.fn.hands.items ≡ l.yielded ++ into_iter_items l.hand-iterator;
   counted : l.worker ≡ length l.yielded;
   seat : MayShare l.board l.plan (l.blocks.partition.workers - l.worker) l.seat;
+  each : length l.jobs.items ≡ length l.yielded;
   jobs : All (IsJob l.board l.plan l.blocks) l.jobs.items;
 }

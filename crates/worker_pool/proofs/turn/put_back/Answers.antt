@@ -3,7 +3,7 @@ use Rattle.worker_pool.proofs.turn.put_back.Goals as goal
 
 pub returns-in-Kept-clause-turn : goal.returns-in-Kept-clause-turn
 returns-in-Kept-clause-turn g c =
-    pair_was_back g.F.Fused.rows g.F.Fused.stands c.args.seat.now c.put_back.new.seat c.in-Kept.ensures.same c.args.taken
+    pair_was_back g.F.Fused.rows g.F.Fused.stands c.args.seat.now c.put_back.new.seat c.args.taken
     c.in-Kept.ensures.answer c.requires.taken
 
 pub returns-in-Busy-clause-turn : goal.returns-in-Busy-clause-turn

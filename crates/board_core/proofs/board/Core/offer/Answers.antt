@@ -21,14 +21,14 @@ pub returns-clause-sound : goal.returns-clause-sound
 returns-clause-sound g c =
     let P : PlainBoard g.row.V.Denot → Type 0 = λ b. IsSound b in
     offers_sound c.args.self.now (subst P c.self.view_is c.self.invariant.sound) c.args.who c.args.piece offered.Kept
-    (plain c.self.inside.rows c.self.inside.room c.put.new.intervals.items c.self.inside.claims.items c.append.new.log.items)
+    (plain c.self.inside.rows c.self.inside.room c.hold.new.held.items c.self.inside.claims.items c.hold.new.log.items)
     c.requires.nonempty c.requires.within (returns-clause-answer g c)
 
 pub invariant_of-self : goal.invariant_of-self
 invariant_of-self g c = record {
-  held_room = omega (arith, c.put.ensures.capacity, c.self.invariant.held_room);
+  held_room = omega (arith, c.hold.ensures.held_capacity, c.self.invariant.held_room);
   claims_room = c.self.invariant.claims_room;
-  log_room = omega (arith, c.append.ensures.capacity, c.self.invariant.log_room);
-  entries = omega (arith, c.put.ensures.len, c.append.ensures.len, c.self.invariant.entries);
+  log_room = omega (arith, c.hold.ensures.log_capacity, c.self.invariant.log_room);
+  entries = omega (arith, c.hold.ensures.held_len, c.hold.ensures.log_len, c.self.invariant.entries);
   sound = returns-clause-sound g c;
 }

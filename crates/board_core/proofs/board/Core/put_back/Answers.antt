@@ -1,4 +1,4 @@
-use Rattle.std.proofs.Common.{rules, arith, ◌≡◌, ◌∙◌, List, ap, sym, subst}
+use Rattle.std.proofs.Common.{rules, arith, ◌≡◌, List, ap, sym, subst}
 use Rattle.interval_kit.specs.declared.piece.Piece.{Piece}
 use Rattle.board_core.specs.Ordered.{IsRisingBy}
 use Rattle.board_core.specs.Board.{PlainBoard, put_piece}
@@ -7,14 +7,13 @@ use Rattle.board_core.proofs.Keeps.{sound_put_back}
 use Rattle.board_core.proofs.TidyLemmas.{right_rises}
 use Rattle.board_core.proofs.board.Core.put_back.Goals as goal
 
-pub put-requires-2-clause-rises : goal.put-requires-2-clause-rises
-put-requires-2-clause-rises g c =
+pub hold_again-requires-clause-right_rises : goal.hold_again-requires-clause-right_rises
+hold_again-requires-clause-right_rises g c =
     let P : PlainBoard g.row.V.Denot → Type 0 = λ b. IsSound b in
-    let R : List (Piece g.row.V.Denot) → Type 0 = λ xs. IsRisingBy (λ p. p.lo) xs in
+    let R : List (Piece g.row.V.Denot) → Type 0 = λ xs. IsRisingBy (λ p. p.lo) (put_piece c.args.taken.right xs) in
     let held : c.self.inside.held.items ≡ c.args.self.now.held = ap (λ (b : PlainBoard g.row.V.Denot). b.held) c.self.view_is in
     let sound : IsSound c.args.self.now = subst P c.self.view_is c.self.invariant.sound in
-    subst R (sym (c.put.ensures.items ∙ ap (λ xs. put_piece c.args.taken.right xs) held))
-    (right_rises c.args.self.now sound.tidy c.args.taken c.requires.is_claim)
+    subst R (sym held) (right_rises c.args.self.now sound.tidy c.args.taken c.requires.is_claim)
 
 pub returns-clause-put_back : goal.returns-clause-put_back
 returns-clause-put_back g c = search rules
@@ -27,9 +26,9 @@ returns-clause-sound g c =
 
 pub invariant_of-self : goal.invariant_of-self
 invariant_of-self g c = record {
-  held_room = omega (arith, c.put.ensures.capacity, c.put-2.ensures.capacity, c.self.invariant.held_room);
-  claims_room = omega (arith, c.drop_claim.ensures.capacity, c.self.invariant.claims_room);
+  held_room = omega (arith, c.hold_again.ensures.held_capacity, c.self.invariant.held_room);
+  claims_room = omega (arith, c.hold_again.ensures.claims_capacity, c.self.invariant.claims_room);
   log_room = omega (arith, c.append.ensures.capacity, c.self.invariant.log_room);
-  entries = omega (arith, c.put.ensures.len, c.put-2.ensures.len, c.drop_claim.ensures.len, c.append.ensures.len, c.self.invariant.entries);
+  entries = omega (arith, c.hold_again.ensures.held_len, c.hold_again.ensures.claims_len, c.append.ensures.len, c.self.invariant.entries);
   sound = returns-clause-sound g c;
 }
