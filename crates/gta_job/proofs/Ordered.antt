@@ -30,7 +30,7 @@ module _ {T : Type 0} where
   unless-ends refusal next job.Memory is = tt
 
 module _ (told : PlainChecked → PlainRows → Result (List ℕ) Refusal) (bytes : List ℕ) where
-  rows_told : ReadTree → Result (List ℕ) Refusal
+  abbrev rows_told : ReadTree → Result (List ℕ) Refusal
   rows_told read =
       and_then (table_rows (resolved_of read.spec) (drop read.rows_at bytes)) (λ rows. told (resolved_of read.spec) rows)
 
@@ -53,7 +53,7 @@ module _ (told : PlainChecked → PlainRows → Result (List ℕ) Refusal) (byte
 
 -- the rows of a table, or its first fault
 module _ (checked : PlainChecked) (bytes : List ℕ) where
-  with_fault : Option RowsFault → Result PlainRows Refusal
+  abbrev with_fault : Option RowsFault → Result PlainRows Refusal
   with_fault fault =
       unless (option_and_then (λ fault. refusal_in (end_of_table fault)) fault) (Ok (rows_of checked bytes))
 
@@ -72,3 +72,8 @@ module _ (checked : PlainChecked) (bytes : List ℕ) where
   table-ends (table.Field row column) is = ap with_fault is
   table-ends table.TooMany is = ap with_fault is
   table-ends table.Memory is = tt
+
+-- a result that tells an outcome tells the same outcome
+pub tells-same : {S T : Type 0} (seen : S → T) (a b : Result T Refusal) (result : Result S JobEnd) → a ≡ b
+    → Tells seen b result → Tells seen a result
+tells-same seen a b result same tells = subst (λ outcome. Tells seen outcome result) (sym same) tells
