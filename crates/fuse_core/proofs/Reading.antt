@@ -5,7 +5,7 @@ use Rattle.shape_gen.specs.declared.shape.Shape.TheVariants.{Sublists, Assign, P
 use Rattle.shape_gen.specs.Candidates.{run}
 use Rattle.shape_gen.specs.Parts.{Component, Whole, Pre, Suf, components, wholes}
 use Rattle.fuse_core.specs.Stands.{HoldsOfEach}
-use Rattle.fuse_core.specs.Places.{IsAt, most}
+use Rattle.fuse_core.specs.Most.{IsAt, most}
 
 pub if_ok-both : {A B : Type 0} (P Q R : A → Type 0) → ((a : A) → P a → Q a → R a) → (result : Result A B)
     → IfOk result P → IfOk result Q → IfOk result R
