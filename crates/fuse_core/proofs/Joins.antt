@@ -1,6 +1,6 @@
 -- The sums that the parts of an interval show, from those of its halves. They need a semiring, and a key and a weight
 -- that take concatenations to products.
-use Rattle.std.proofs.Common.{◌≡◌, refl, sym, ap, ◌∙◌, subst, ℕ, ◌-◌, ◌≤◌, List, [], ◌∷◌, ◌++◌, map, nat_eq}
+use Rattle.std.proofs.Common.{◌≡◌, refl, sym, ap, ◌∙◌, ℕ, List, [], ◌∷◌, ◌++◌, map, nat_eq}
 use Rattle.std.proofs.lemmas.List.{map-append}
 use Rattle.std.specs.List.{flat_map}
 use Rattle.std.specs.List.Sorted.{IsPermutation}
@@ -13,11 +13,7 @@ use Rattle.semiring_kit.proofs.Sums.{masked-IsAdditive}
 use Rattle.key_map.specs.Convolution.{convolution}
 use Rattle.key_map.proofs.Convolutions.{convolution-same, convolution_of_totals-pairs}
 use Rattle.shape_gen.specs.declared.mark.Mark.{Mark}
-use Rattle.shape_gen.specs.declared.shape.Shape.{Shape}
-use Rattle.shape_gen.specs.Candidates.{run}
-use Rattle.shape_gen.specs.Parts.{Pre, Suf, Seg, part}
 use Rattle.shape_gen.proofs.Lists.{concats, map-map, flat_map-same}
-use Rattle.shape_gen.proofs.Parts.{pre-parts, suf-parts, seg-parts}
 use Rattle.fuse_core.specs.Stands.{ShowsSums}
 use Rattle.fuse_core.proofs.Weighs.{Weighs}
 

@@ -1,17 +1,12 @@
 -- What the maps of no row and of one row show.
 use Rattle.std.proofs.lemmas.List.{append-nil}
-use Rattle.std.proofs.Common.{◌≡◌, refl, sym, ap, ◌∙◌, subst, ℕ, zero, suc, ◌+◌, ◌*◌, ◌<◌, ◌≤◌, true, false, ◌⊎◌, inl, inr, List, [], ◌∷◌, ◌++◌, length, map, slice_index_or, nat_eq, arith, mul-le-mul_right, Result, Ok, Err, IfOk}
-use Rattle.std.proofs.lemmas.List.FromFn.{map-range_with_len_more}
-use Rattle.std.specs.List.{range_with_len}
+use Rattle.std.proofs.Common.{◌≡◌, refl, sym, ap, ◌∙◌, subst, ℕ, zero, suc, ◌+◌, ◌*◌, ◌<◌, ◌≤◌, true, false, List, [], ◌∷◌, ◌++◌, length, map, slice_index_or, nat_eq, arith, mul-le-mul_right, Result, Ok, Err, IfOk}
 use Rattle.monoid_kit.specs.Monoid.{IsMonoid}
 use Rattle.semiring_kit.specs.Semiring.{SemiringOn, IsSemiring, IsGood, weight_bound}
 use Rattle.semiring_kit.specs.Total.{masked, total_at_key}
 use Rattle.shape_gen.specs.declared.mark.Mark.{Mark}
 use Rattle.shape_gen.specs.declared.shape.Shape.{Shape}
-use Rattle.shape_gen.specs.declared.shape.Shape.TheVariants.{Sublists, Assign, Prefixes, Suffixes, Segments}
 use Rattle.shape_gen.specs.Candidates.{mark}
-use Rattle.shape_gen.specs.Parts.{Whole, Pre, Suf, Seg, part}
-use Rattle.shape_gen.proofs.Parts.{whole-none, pre-none, suf-none, seg-none}
 use Rattle.fuse_core.specs.declared.letter.Letter.{Letter}
 use Rattle.fuse_core.specs.Letters.{key_at, elem_at, key_of, weight_of, HasLetters}
 use Rattle.fuse_core.specs.Stands.{ShowsSums, Shows}
@@ -67,22 +62,13 @@ module _ {E M : Type 0} {r : SemiringOn E} (laws : IsSemiring r) {size unit : �
         (masked_sound unit m r.one laws.multiplication.unit_is_element));
   }
 
-  -- the map of no list
-  pub none-value : (z : M) → fits z → ((k : ℕ) → value_at z k ≡ r.zero)
-      → Shows r (key_of unit times labels letters) (weight_of r labels letters) fits value_at [] z
-  none-value z z_fits value = record { fits_kit = z_fits; sums = value }
-
-  letter-good : (row label : ℕ) (x : Letter E) → row < rows → label < labels
+  pub letter-is_good : (row label : ℕ) (x : Letter E) → row < rows → label < labels
       → x ≡ slice_index_or letters (row * labels + label) x → IsGood r x.elem
-  letter-good row label x row_in label_in is =
+  letter-is_good row label x row_in label_in is =
       let within : row * labels + label < length letters =
       subst (λ n. row * labels + label < n) (sym has.count) (place-within rows labels row label row_in label_in) in
       subst (IsGood r) (sym (elem-read r.one letters (row * labels + label) x within is))
       (elem_at-is_good laws letters (row * labels + label) has.elems)
-
-  pub letter-is_good : (row label : ℕ) (x : Letter E) → row < rows → label < labels
-      → x ≡ slice_index_or letters (row * labels + label) x → IsGood r x.elem
-  letter-is_good row label x row_in label_in is = letter-good row label x row_in label_in is
 
   pub letter-key : (row label : ℕ) (x : Letter E) → row < rows → label < labels
       → x ≡ slice_index_or letters (row * labels + label) x → x.key < size

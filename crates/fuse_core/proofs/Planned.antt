@@ -1,5 +1,5 @@
 -- The maps of a plan by the places of their components: what stands, and how far they reach.
-use Rattle.std.proofs.Common.{◌≡◌, refl, sym, ap, ◌∙◌, subst, ℕ, zero, suc, ◌+◌, ◌-◌, ◌*◌, ◌<◌, ◌≤◌, List, [], ◌∷◌, length, slice_index_or, arith}
+use Rattle.std.proofs.Common.{◌≡◌, refl, sym, ap, subst, ℕ, zero, suc, ◌+◌, ◌-◌, ◌*◌, ◌<◌, ◌≤◌, List, [], ◌∷◌, length, slice_index_or, arith}
 use Rattle.std.specs.List.Sorted.{IsPermutation}
 use Rattle.monoid_kit.specs.Monoid.{IsMonoid}
 use Rattle.semiring_kit.specs.Semiring.{SemiringOn, IsSemiring, weight_bound}

@@ -1,5 +1,5 @@
 -- The wirings of the five shapes are lawful: they say of the parts of an interval how they come about.
-use Rattle.std.proofs.Common.{◌≡◌, refl, sym, ap, ◌∙◌, subst, ℕ, zero, suc, ◌+◌, ◌-◌, ◌*◌, ◌<◌, ◌≤◌, ◌⊎◌, inl, inr, List, [], ◌∷◌, ◌++◌, length, map, slice_index_or, arith}
+use Rattle.std.proofs.Common.{◌≡◌, refl, sym, ap, ◌∙◌, subst, ℕ, zero, suc, ◌+◌, ◌-◌, ◌*◌, ◌<◌, ◌≤◌, inl, inr, List, [], ◌∷◌, ◌++◌, length, map, slice_index_or, arith}
 use Rattle.std.specs.Prelude.{if◌then◌else◌}
 use Rattle.std.proofs.lemmas.List.{append-nil}
 use Rattle.std.proofs.lemmas.List.Sorted.{IsPermutation-append_comm, IsPermutation-refl}
@@ -10,14 +10,13 @@ use Rattle.shape_gen.specs.declared.mark.Mark.{Mark}
 use Rattle.shape_gen.specs.declared.shape.Shape.{Shape}
 use Rattle.shape_gen.specs.declared.shape.Shape.TheVariants.{Sublists, Assign, Prefixes, Suffixes, Segments}
 use Rattle.shape_gen.specs.Candidates.{mark, run, sublists, assignments, prefixes, suffixes, segments}
-use Rattle.shape_gen.specs.Parts.{Component, Whole, Pre, Suf, Seg, components, part, wholes}
-use Rattle.shape_gen.proofs.Lists.{flat_map-same}
+use Rattle.shape_gen.specs.Parts.{Component, Whole, Pre, Suf, Seg, components, part}
 use Rattle.shape_gen.proofs.Parts.{whole-parts, pre-parts, suf-parts, seg-parts, whole-none, pre-none, suf-none, seg-none}
 use Rattle.fuse_core.specs.declared.wiring.Growth.{Growth}
-use Rattle.fuse_core.specs.declared.wiring.Growth.TheVariants.{Alone, Before, Same}
+use Rattle.fuse_core.specs.declared.wiring.Growth.TheVariants.{Before}
 use Rattle.fuse_core.specs.declared.wiring.Source.{Source}
 use Rattle.fuse_core.specs.declared.wiring.Wires.{Wires}
-use Rattle.fuse_core.specs.Wirings.{WiresOn, wires_on, source_lists, growth_lists, kept_lists, crossings, shifts, all_crossings, all_shifts, SourceWithin, GrowthWithin, wires, wiring}
+use Rattle.fuse_core.specs.Wirings.{WiresOn, wires_on, source_lists, growth_lists, kept_lists, shifts, all_crossings, all_shifts, SourceWithin, GrowthWithin, wires, wiring}
 use Rattle.fuse_core.specs.Places.{StandsAt, ShowEach, ShowGrown, ShowNoRow, ShowJoined, Brings, WiresGrow, WiresJoin}
 use Rattle.fuse_core.proofs.Picks.{in-map, in-range}
 

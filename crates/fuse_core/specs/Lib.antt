@@ -3,4 +3,4 @@ pub mod Stands
 pub mod Plans
 pub mod Wirings
 pub mod Places
-pub mod Most
+pub mod Components

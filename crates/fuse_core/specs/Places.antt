@@ -1,5 +1,5 @@
 -- Maps by the places of their components.
-use Rattle.std.specs.Prelude.{◌≡◌, ℕ, ◌+◌, ◌<◌, ◌++◌, List, [], ◌∷◌, length, slice_index_or, if◌then◌else◌}
+use Rattle.std.specs.Prelude.{◌≡◌, ℕ, ◌<◌, ◌++◌, List, [], ◌∷◌, length, slice_index_or, if◌then◌else◌}
 use Rattle.std.specs.List.{flat_map}
 use Rattle.monoid_kit.specs.Items.{IsIn}
 use Rattle.shape_gen.specs.declared.mark.Mark.{Mark}

@@ -1,13 +1,12 @@
 -- Wirings: how the lists of each component come from those of the halves of an interval, and from its first row and the
 -- later ones. Components are told by their places. A wiring knows no shape; those of the five shapes stand at the end.
-use Rattle.std.specs.Prelude.{◌≡◌, ℕ, zero, suc, ◌+◌, ◌<◌, ◌≤◌, Bool, true, false, List, [], ◌∷◌, ◌++◌, length, map, slice_index_or, if◌then◌else◌}
+use Rattle.std.specs.Prelude.{ℕ, ◌+◌, ◌<◌, Bool, true, false, List, [], ◌∷◌, ◌++◌, map, if◌then◌else◌}
 use Rattle.std.specs.List.{flat_map, range_with_len}
-use Rattle.std.specs.List.Sorted.{IsPermutation}
 use Rattle.shape_gen.specs.declared.mark.Mark.{Mark}
 use Rattle.shape_gen.specs.declared.shape.Shape.{Shape}
 use Rattle.shape_gen.specs.declared.shape.Shape.TheVariants.{Sublists, Assign, Prefixes, Suffixes, Segments}
 use Rattle.shape_gen.specs.Candidates.{mark}
-use Rattle.shape_gen.specs.Parts.{Component, Whole, Pre, Suf, Seg, components, part}
+use Rattle.shape_gen.specs.Parts.{Component, Whole, Pre, Suf, Seg, components}
 use Rattle.fuse_core.specs.declared.wiring.Source.{Source}
 use Rattle.fuse_core.specs.declared.wiring.Source.TheVariants.{Left, Right, Across}
 use Rattle.fuse_core.specs.declared.wiring.Growth.{Growth}

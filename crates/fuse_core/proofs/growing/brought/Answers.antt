@@ -1,4 +1,4 @@
-use Rattle.std.proofs.Common.{◌≡◌, ℕ, ◌+◌, ◌*◌, ◌≤◌, subst, sym, ap, length, map, take, arith}
+use Rattle.std.proofs.Common.{◌+◌, subst, sym, ap, length, map, take, arith}
 use Rattle.std.proofs.lemmas.List.{length_push}
 use Rattle.fuse_core.specs.Wirings.{wires_on, shifts, all_shifts}
 use Rattle.fuse_core.specs.Places.{StandsAt}

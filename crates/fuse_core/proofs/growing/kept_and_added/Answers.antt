@@ -1,4 +1,4 @@
-use Rattle.std.proofs.Common.{◌≡◌, ℕ, ◌+◌, ◌++◌, ◌∷◌, subst, sym, ap, ◌∙◌, length, drop, arith}
+use Rattle.std.proofs.Common.{◌≡◌, ◌++◌, ◌∷◌, subst, sym, ap, ◌∙◌, length, drop, arith}
 use Rattle.std.proofs.lemmas.List.{length_push}
 use Rattle.fuse_core.specs.declared.wiring.Wires.{Wires}
 use Rattle.fuse_core.specs.Wirings.{kept_lists}

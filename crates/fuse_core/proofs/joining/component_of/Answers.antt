@@ -1,4 +1,4 @@
-use Rattle.std.proofs.Common.{ℕ, ◌+◌, ◌*◌, ◌≤◌, subst, [], ◌∷◌, take, slice_index_or}
+use Rattle.std.proofs.Common.{◌+◌, ◌*◌, subst, [], ◌∷◌, take, slice_index_or}
 use Rattle.std.proofs.lemmas.List.{take_all}
 use Rattle.std.specs.List.{flat_map}
 use Rattle.monoid_kit.proofs.Items.{IsIn-read}

@@ -1,4 +1,4 @@
-use Rattle.std.proofs.Common.{◌≡◌, ℕ, ◌+◌, ◌*◌, ◌≤◌, subst, sym, ap, length, map, take, arith}
+use Rattle.std.proofs.Common.{◌+◌, ◌*◌, subst, sym, ap, length, map, take, arith}
 use Rattle.std.specs.List.{flat_map}
 use Rattle.std.proofs.lemmas.List.{length_push}
 use Rattle.fuse_core.specs.declared.wiring.Wires.{Wires}

@@ -1,4 +1,4 @@
-use Rattle.std.proofs.Common.{◌≡◌, ◌∙◌, sym, ap, subst, ◌≤◌, ◌*◌, length, map}
+use Rattle.std.proofs.Common.{◌∙◌, sym, ap, subst, ◌≤◌, length, map}
 use Rattle.fuse_core.specs.Wirings.{wires_on, all_crossings}
 use Rattle.fuse_core.proofs.Costs.{join-cost}
 use Rattle.fuse_core.proofs.Wired.{lists_at, shape-crossings, width, made-joins, joined-shown}

@@ -1,5 +1,5 @@
-use Rattle.std.proofs.Common.{◌≡◌, ◌∙◌, sym, ap, subst, ℕ, ◌+◌, ◌-◌, ◌*◌, ◌<◌, ◌≤◌, length, map, arith}
-use Rattle.fuse_core.specs.Wirings.{wires_on, all_shifts, wiring}
+use Rattle.std.proofs.Common.{◌≡◌, ◌∙◌, sym, ap, subst, ◌+◌, ◌-◌, ◌*◌, ◌<◌, ◌≤◌, length, map, arith}
+use Rattle.fuse_core.specs.Wirings.{wires_on, all_shifts}
 use Rattle.fuse_core.specs.Places.{ShowEach}
 use Rattle.fuse_core.proofs.Costs.{row-cost, leaf-cost}
 use Rattle.fuse_core.proofs.Wired.{lists_at, brings, shape-shifts, width, made-grows, made-brings, none-shown, grown-shown}

@@ -1,4 +1,4 @@
-use Rattle.std.proofs.Common.{◌+◌, ◌*◌, ◌≤◌, arith, mul-le-mul}
+use Rattle.std.proofs.Common.{arith, mul-le-mul}
 use Rattle.fuse_core.proofs.Reading.{if_ok-both}
 use Rattle.fuse_core.proofs.Leaves.{across-value}
 use Rattle.fuse_core.proofs.plan.PlanMaps.across.Goals as goal

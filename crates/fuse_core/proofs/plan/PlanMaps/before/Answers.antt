@@ -1,4 +1,4 @@
-use Rattle.std.proofs.Common.{◌+◌, ◌≤◌, arith}
+use Rattle.std.proofs.Common.{arith}
 use Rattle.fuse_core.proofs.Reading.{if_ok-both}
 use Rattle.fuse_core.proofs.Leaves.{letter-is_good, letter-key, letter-reach, before-value}
 use Rattle.fuse_core.proofs.plan.PlanMaps.before.Goals as goal
