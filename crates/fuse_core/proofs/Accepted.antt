@@ -18,7 +18,7 @@ use Rattle.fuse_core.specs.declared.letter.Letter.{Letter}
 use Rattle.fuse_core.specs.Letters.{key_of, weight_of, HasLetters}
 use Rattle.fuse_core.specs.Stands.{Shows, Stands}
 use Rattle.fuse_core.specs.Plans.{accepts, accepted_sum}
-use Rattle.fuse_core.specs.Places.{IsAt}
+use Rattle.fuse_core.specs.Components.{IsAt}
 use Rattle.fuse_core.proofs.Weighs.{weighs}
 use Rattle.fuse_core.proofs.Reading.{each-at, whole-first}
 

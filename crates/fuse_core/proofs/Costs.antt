@@ -1,12 +1,14 @@
 -- What a row more, a leaf and a join cost.
 use Rattle.std.proofs.Common.{ℕ, ◌+◌, ◌*◌, ◌≤◌, arith, mul-le-mul_right}
 
-pub few_times : (few bound size : ℕ) → few ≤ bound → few * size ≤ bound * size
-few_times few bound size within = mul-le-mul_right size within
+pub row-cost : (shifts size labels old new : ℕ) → shifts ≤ 4 * (labels + 1) → new ≤ old + shifts * size → new ≤ old + 4 * ((labels + 1) * size)
+row-cost shifts size labels old new few ticks =
+    let product : shifts * size ≤ (4 * (labels + 1)) * size = mul-le-mul_right size few in
+    omega (arith, product)
 
-pub join-cost : (size most old new : ℕ) → most ≤ size → new ≤ old + 4 * (most * size) → new ≤ old + 4 * size * size
-join-cost size most old new few ticks =
-    let product : most * size ≤ size * size = mul-le-mul_right size few in
+pub join-cost : (crossings size old new : ℕ) → crossings ≤ 4 → new ≤ old + crossings * (size * size) → new ≤ old + 4 * size * size
+join-cost crossings size old new few ticks =
+    let product : crossings * (size * size) ≤ 4 * (size * size) = mul-le-mul_right (size * size) few in
     omega (arith, product)
 
 -- a row more, among at most more rows

@@ -1,6 +1,6 @@
 -- The sums that the parts of an interval show, from those of its halves. They need a semiring, and a key and a weight
 -- that take concatenations to products.
-use Rattle.std.proofs.Common.{◌≡◌, refl, sym, ap, ◌∙◌, subst, ℕ, ◌-◌, ◌≤◌, List, [], ◌∷◌, ◌++◌, map, nat_eq}
+use Rattle.std.proofs.Common.{◌≡◌, refl, sym, ap, ◌∙◌, ℕ, List, [], ◌∷◌, ◌++◌, map, nat_eq}
 use Rattle.std.proofs.lemmas.List.{map-append}
 use Rattle.std.specs.List.{flat_map}
 use Rattle.std.specs.List.Sorted.{IsPermutation}
@@ -13,11 +13,7 @@ use Rattle.semiring_kit.proofs.Sums.{masked-IsAdditive}
 use Rattle.key_map.specs.Convolution.{convolution}
 use Rattle.key_map.proofs.Convolutions.{convolution-same, convolution_of_totals-pairs}
 use Rattle.shape_gen.specs.declared.mark.Mark.{Mark}
-use Rattle.shape_gen.specs.declared.shape.Shape.{Shape}
-use Rattle.shape_gen.specs.Candidates.{run}
-use Rattle.shape_gen.specs.Parts.{Pre, Suf, Seg, part}
 use Rattle.shape_gen.proofs.Lists.{concats, map-map, flat_map-same}
-use Rattle.shape_gen.proofs.Parts.{pre-parts, suf-parts, seg-parts}
 use Rattle.fuse_core.specs.Stands.{ShowsSums}
 use Rattle.fuse_core.proofs.Weighs.{Weighs}
 
@@ -65,31 +61,3 @@ module _ {E : Type 0} {r : SemiringOn E} (laws : IsSemiring r) {size : ℕ} {tim
       → ShowsSums r key weight cs x
   permuted_shows cs ds x permuted shows m =
       shows m ∙ product_by-permuted laws.addition (λ c. masked r (nat_eq (key c) m) (weight c)) (masked_sound m) cs ds permuted
-
-  module _ (shape : Shape) (labels lo mid hi : ℕ) (left : lo ≤ mid) (right : mid ≤ hi) where
-    pub pre_shows : (pre crossing : ℕ → E) → ShowsSums r key weight (part shape labels Pre lo mid) pre
-        → ShowsSums r key weight (concats (run lo (mid - lo) ∷ []) (part shape labels Pre mid hi)) crossing
-        → ShowsSums r key weight (part shape labels Pre lo hi) (λ m. r.add (pre m) (crossing m))
-    pre_shows pre crossing pres crossings =
-        subst (λ l. ShowsSums r key weight l (λ m. r.add (pre m) (crossing m))) (sym (pre-parts shape labels lo mid hi left right))
-        (sum_shows (part shape labels Pre lo mid) (concats (run lo (mid - lo) ∷ []) (part shape labels Pre mid hi)) pre crossing pres crossings)
-
-    pub suf_shows : (suf crossing : ℕ → E) → ShowsSums r key weight (part shape labels Suf mid hi) suf
-        → ShowsSums r key weight (concats (part shape labels Suf lo mid) (run mid (hi - mid) ∷ [])) crossing
-        → ShowsSums r key weight (part shape labels Suf lo hi) (λ m. r.add (suf m) (crossing m))
-    suf_shows suf crossing sufs crossings =
-        subst (λ l. ShowsSums r key weight l (λ m. r.add (suf m) (crossing m))) (sym (suf-parts shape labels lo mid hi left right))
-        (sum_shows (part shape labels Suf mid hi) (concats (part shape labels Suf lo mid) (run mid (hi - mid) ∷ [])) suf crossing sufs crossings)
-
-    pub seg_shows : (earlier later crossing : ℕ → E) → ShowsSums r key weight (part shape labels Seg lo mid) earlier
-        → ShowsSums r key weight (part shape labels Seg mid hi) later
-        → ShowsSums r key weight (concats (part shape labels Suf lo mid) (part shape labels Pre mid hi)) crossing
-        → ShowsSums r key weight (part shape labels Seg lo hi) (λ m. r.add (earlier m) (r.add (later m) (crossing m)))
-    seg_shows earlier later crossing earliers laters crossings =
-        let across = concats (part shape labels Suf lo mid) (part shape labels Pre mid hi) in
-        permuted_shows (part shape labels Seg lo hi) (part shape labels Seg lo mid ++ (part shape labels Seg mid hi ++ across))
-        (λ m. r.add (earlier m) (r.add (later m) (crossing m)))
-        (seg-parts shape labels lo mid hi left right)
-        (sum_shows (part shape labels Seg lo mid) (part shape labels Seg mid hi ++ across)
-        earlier (λ m. r.add (later m) (crossing m)) earliers
-        (sum_shows (part shape labels Seg mid hi) across later crossing laters crossings))

@@ -1,21 +1,20 @@
 -- What the maps of no row and of one row show.
-use Rattle.std.proofs.Common.{◌≡◌, sym, ap, ◌∙◌, subst, ℕ, zero, suc, ◌+◌, ◌*◌, ◌<◌, ◌≤◌, true, false, ◌⊎◌, inl, inr, List, [], ◌∷◌, ◌++◌, length, map, slice_index_or, nat_eq, arith, mul-le-mul_right, Result, Ok, Err, IfOk}
-use Rattle.std.proofs.lemmas.List.FromFn.{map-range_with_len_more}
-use Rattle.std.specs.List.{range_with_len}
+use Rattle.std.proofs.lemmas.List.{append-nil}
+use Rattle.std.proofs.Common.{◌≡◌, refl, sym, ap, ◌∙◌, subst, ℕ, zero, suc, ◌+◌, ◌*◌, ◌<◌, ◌≤◌, true, false, List, [], ◌∷◌, ◌++◌, length, map, slice_index_or, nat_eq, arith, mul-le-mul_right, Result, Ok, Err, IfOk}
 use Rattle.monoid_kit.specs.Monoid.{IsMonoid}
-use Rattle.semiring_kit.specs.Semiring.{SemiringOn, IsSemiring, IsGood}
-use Rattle.semiring_kit.specs.Total.{masked}
+use Rattle.semiring_kit.specs.Semiring.{SemiringOn, IsSemiring, IsGood, weight_bound}
+use Rattle.semiring_kit.specs.Total.{masked, total_at_key}
 use Rattle.shape_gen.specs.declared.mark.Mark.{Mark}
 use Rattle.shape_gen.specs.declared.shape.Shape.{Shape}
-use Rattle.shape_gen.specs.declared.shape.Shape.TheVariants.{Sublists, Assign, Prefixes, Suffixes, Segments}
 use Rattle.shape_gen.specs.Candidates.{mark}
-use Rattle.shape_gen.specs.Parts.{Whole, Pre, Suf, Seg, part}
-use Rattle.shape_gen.proofs.Parts.{whole-none, pre-none, suf-none, seg-none}
 use Rattle.fuse_core.specs.declared.letter.Letter.{Letter}
 use Rattle.fuse_core.specs.Letters.{key_at, elem_at, key_of, weight_of, HasLetters}
-use Rattle.fuse_core.specs.Stands.{Shows, Stands}
+use Rattle.fuse_core.specs.Stands.{ShowsSums, Shows}
+use Rattle.fuse_core.specs.Wirings.{joints}
+use Rattle.key_map.specs.Convolution.{convolution}
+use Rattle.key_map.specs.Maps.{alone, ReachesAddUp}
 use Rattle.fuse_core.proofs.Weighs.{weighs, key_at-in_range, elem_at-is_good}
-use Rattle.fuse_core.proofs.Joins.{sum_shows}
+use Rattle.fuse_core.proofs.Joins.{sum_shows, product_shows}
 
 pub if_ok-then : {A B : Type 0} (P R : A → Type 0) → ((a : A) → P a → R a) → (result : Result A B) → IfOk result P → IfOk result R
 if_ok-then P R step (Ok a) p = step a p
@@ -63,22 +62,13 @@ module _ {E M : Type 0} {r : SemiringOn E} (laws : IsSemiring r) {size unit : �
         (masked_sound unit m r.one laws.multiplication.unit_is_element));
   }
 
-  -- the map of no list
-  pub none-value : (z : M) → fits z → ((k : ℕ) → value_at z k ≡ r.zero)
-      → Shows r (key_of unit times labels letters) (weight_of r labels letters) fits value_at [] z
-  none-value z z_fits value = record { fits_kit = z_fits; sums = value }
-
-  letter-good : (row label : ℕ) (x : Letter E) → row < rows → label < labels
+  pub letter-is_good : (row label : ℕ) (x : Letter E) → row < rows → label < labels
       → x ≡ slice_index_or letters (row * labels + label) x → IsGood r x.elem
-  letter-good row label x row_in label_in is =
+  letter-is_good row label x row_in label_in is =
       let within : row * labels + label < length letters =
       subst (λ n. row * labels + label < n) (sym has.count) (place-within rows labels row label row_in label_in) in
       subst (IsGood r) (sym (elem-read r.one letters (row * labels + label) x within is))
       (elem_at-is_good laws letters (row * labels + label) has.elems)
-
-  pub letter-is_good : (row label : ℕ) (x : Letter E) → row < rows → label < labels
-      → x ≡ slice_index_or letters (row * labels + label) x → IsGood r x.elem
-  letter-is_good row label x row_in label_in is = letter-good row label x row_in label_in is
 
   pub letter-key : (row label : ℕ) (x : Letter E) → row < rows → label < labels
       → x ≡ slice_index_or letters (row * labels + label) x → x.key < size
@@ -88,12 +78,11 @@ module _ {E M : Type 0} {r : SemiringOn E} (laws : IsSemiring r) {size unit : �
       subst (λ key. key < size) (sym (key-read unit letters (row * labels + label) x within is))
       (key_at-in_range size unit letters (row * labels + label) monoid.unit_is_element has.keys)
 
-  -- the map of the one list with a mark
-  pub marked-value : (row label : ℕ) (x : Letter E) (elem : E) (z : M) → row < rows → label < labels
-      → x ≡ slice_index_or letters (row * labels + label) x → elem ≡ x.elem → fits z
-      → ((k : ℕ) → value_at z k ≡ masked r (nat_eq x.key k) elem)
-      → Shows r (key_of unit times labels letters) (weight_of r labels letters) fits value_at ((mark row label ∷ []) ∷ []) z
-  marked-value row label x elem z row_in label_in is same z_fits value =
+  -- the value of a letter at its key shows the one list with the mark
+  pub mark-sums : (row label : ℕ) (x : Letter E) (elem : E) → row < rows → label < labels
+      → x ≡ slice_index_or letters (row * labels + label) x → elem ≡ x.elem
+      → ShowsSums r (key_of unit times labels letters) (weight_of r labels letters) ((mark row label ∷ []) ∷ []) (alone r x.key elem)
+  mark-sums row label x elem row_in label_in is same m =
       let within : row * labels + label < length letters =
       subst (λ n. row * labels + label < n) (sym has.count) (place-within rows labels row label row_in label_in) in
       let place = row * labels + label in
@@ -106,14 +95,69 @@ module _ {E M : Type 0} {r : SemiringOn E} (laws : IsSemiring r) {size unit : �
       let product_sound : r.is_sound (r.mul (elem_at r.one letters place) r.one) =
       laws.multiplication.product_is_element (elem_at r.one letters place) r.one
       (elem_at-is_good laws letters place has.elems).sound laws.multiplication.unit_is_element in
-      record {
-        fits_kit = z_fits;
-        sums = λ m. value m
-            ∙ ap (λ k. masked r (nat_eq k m) elem) key_is
-            ∙ ap (masked r (nat_eq (times (key_at unit letters place) unit) m)) elem_is
-            ∙ sym (zero_right (masked r (nat_eq (times (key_at unit letters place) unit) m) (r.mul (elem_at r.one letters place) r.one))
-            (masked_sound (times (key_at unit letters place) unit) m (r.mul (elem_at r.one letters place) r.one) product_sound));
-      }
+      ap (λ k. masked r (nat_eq k m) elem) key_is
+      ∙ ap (masked r (nat_eq (times (key_at unit letters place) unit) m)) elem_is
+      ∙ sym (zero_right (masked r (nat_eq (times (key_at unit letters place) unit) m) (r.mul (elem_at r.one letters place) r.one))
+      (masked_sound (times (key_at unit letters place) unit) m (r.mul (elem_at r.one letters place) r.one) product_sound))
+
+  -- the map of the one list with a mark
+  pub marked-value : (row label : ℕ) (x : Letter E) (elem : E) (z : M) → row < rows → label < labels
+      → x ≡ slice_index_or letters (row * labels + label) x → elem ≡ x.elem → fits z
+      → ((k : ℕ) → value_at z k ≡ masked r (nat_eq x.key k) elem)
+      → Shows r (key_of unit times labels letters) (weight_of r labels letters) fits value_at ((mark row label ∷ []) ∷ []) z
+  marked-value row label x elem z row_in label_in is same z_fits value = record {
+    fits_kit = z_fits;
+    sums = λ m. value m ∙ mark-sums row label x elem row_in label_in is same m;
+  }
+
+  -- the mark before each list of a map
+  pub before-value : (row label : ℕ) (x : Letter E) (later z : M) → row < rows → label < labels
+      → x ≡ slice_index_or letters (row * labels + label) x → fits z
+      → ((k : ℕ) → value_at z k ≡ convolution r size times (alone r x.key x.elem) (value_at later) k)
+      → (ds : List (List Mark))
+      → Shows r (key_of unit times labels letters) (weight_of r labels letters) fits value_at ds later
+      → Shows r (key_of unit times labels letters) (weight_of r labels letters) fits value_at (map (λ d. mark row label ∷ d) ds) z
+  before-value row label x later z row_in label_in is z_fits value ds shown = record {
+    fits_kit = z_fits;
+    sums = λ m. value m
+        ∙ product_shows laws (weighs laws monoid shape rows labels letters has) ((mark row label ∷ []) ∷ []) ds (alone r x.key x.elem) (value_at later)
+        (mark-sums row label x x.elem row_in label_in is refl) shown.sums m
+        ∙ ap (λ l. total_at_key r (key_of unit times labels letters) (weight_of r labels letters) l m) (append-nil (map (λ d. mark row label ∷ d) ds));
+  }
+
+  -- the letter's reach is as far as the plan's letters say
+  pub letter-reach : (row label : ℕ) (x : Letter E) (y : ℕ → E) → row < rows → label < labels
+      → x ≡ slice_index_or letters (row * labels + label) x
+      → ((k : ℕ) → r.reach (elem_at r.one letters (row * labels + label)) + r.reach (y k) ≤ weight_bound)
+      → ReachesAddUp r (alone r x.key x.elem) y
+  letter-reach row label x y row_in label_in is add_up j k =
+      let within : row * labels + label < length letters =
+      subst (λ n. row * labels + label < n) (sym has.count) (place-within rows labels row label row_in label_in) in
+      let same : r.reach x.elem ≡ r.reach (elem_at r.one letters (row * labels + label)) = ap r.reach (elem-read r.one letters (row * labels + label) x within is) in
+      let here : r.reach (alone r x.key x.elem j) ≤ r.reach x.elem =
+      elim (nat_eq x.key j) as (λ t. r.reach (masked r t x.elem) ≤ r.reach x.elem) [
+        | true ↦ omega arith
+        | false ↦ let none : r.reach r.zero ≡ 0 = laws.zero_reach in omega arith
+      ] in
+      let both = add_up k in
+      omega (arith, same, here, both)
+
+  -- the same lists
+  pub same-value : (cs : List (List Mark)) (x z : M) → fits z → ((k : ℕ) → value_at z k ≡ value_at x k)
+      → Shows r (key_of unit times labels letters) (weight_of r labels letters) fits value_at cs x
+      → Shows r (key_of unit times labels letters) (weight_of r labels letters) fits value_at cs z
+  same-value cs x z z_fits value shown = record { fits_kit = z_fits; sums = λ m. value m ∙ shown.sums m }
+
+  -- each list of one map with each of another behind it
+  pub across-value : (cs ds : List (List Mark)) (x y z : M) → fits z
+      → ((k : ℕ) → value_at z k ≡ convolution r size times (value_at x) (value_at y) k)
+      → Shows r (key_of unit times labels letters) (weight_of r labels letters) fits value_at cs x
+      → Shows r (key_of unit times labels letters) (weight_of r labels letters) fits value_at ds y
+      → Shows r (key_of unit times labels letters) (weight_of r labels letters) fits value_at (joints cs ds) z
+  across-value cs ds x y z z_fits value xs ys = record {
+    fits_kit = z_fits;
+    sums = λ m. value m ∙ product_shows laws (weighs laws monoid shape rows labels letters has) cs ds (value_at x) (value_at y) xs.sums ys.sums m;
+  }
 
   -- sums of what two maps show
   pub both-value : (cs ds : List (List Mark)) (x y z : M)
@@ -125,72 +169,3 @@ module _ {E M : Type 0} {r : SemiringOn E} (laws : IsSemiring r) {size unit : �
     fits_kit = z_fits;
     sums = λ m. value m ∙ sum_shows laws (weighs laws monoid shape rows labels letters has) cs ds (value_at x) (value_at y) xs.sums ys.sums m;
   }
-
-  pub label-more : (row label : ℕ) (x y z : M)
-      → Shows r (key_of unit times labels letters) (weight_of r labels letters) fits value_at (map (λ l. mark row l ∷ []) (range_with_len 0 label)) x
-      → Shows r (key_of unit times labels letters) (weight_of r labels letters) fits value_at ((mark row label ∷ []) ∷ []) y
-      → fits z → ((k : ℕ) → value_at z k ≡ r.add (value_at x k) (value_at y k))
-      → Shows r (key_of unit times labels letters) (weight_of r labels letters) fits value_at (map (λ l. mark row l ∷ []) (range_with_len 0 (label + 1))) z
-  label-more row label x y z xs ys z_fits value =
-      subst (λ lists. Shows r (key_of unit times labels letters) (weight_of r labels letters) fits value_at lists z)
-      (sym (map-range_with_len_more (λ l. mark row l ∷ []) 0 label label (omega arith)))
-      (both-value (map (λ l. mark row l ∷ []) (range_with_len 0 label)) ((mark row label ∷ []) ∷ []) x y z xs ys z_fits value)
-
-  pub labels-all : (row count : ℕ) (x : M) → count ≡ labels
-      → Shows r (key_of unit times labels letters) (weight_of r labels letters) fits value_at (map (λ l. mark row l ∷ []) (range_with_len 0 count)) x
-      → Shows r (key_of unit times labels letters) (weight_of r labels letters) fits value_at (map (λ l. mark row l ∷ []) (range_with_len 0 labels)) x
-  labels-all row count x all xs =
-      subst (λ n. Shows r (key_of unit times labels letters) (weight_of r labels letters) fits value_at (map (λ l. mark row l ∷ []) (range_with_len 0 n)) x) all xs
-
-  -- tuples of no row
-
-  module _ (z : M) (empty : Shows r (key_of unit times labels letters) (weight_of r labels letters) fits value_at ([] ∷ []) z) (lo : ℕ) where
-    whole-empty : (s : Shape) → Shows r (key_of unit times labels letters) (weight_of r labels letters) fits value_at (part s labels Whole lo lo) z
-    whole-empty s = subst (λ lists. Shows r (key_of unit times labels letters) (weight_of r labels letters) fits value_at lists z)
-        (sym (whole-none s labels lo)) empty
-
-    none-of : (lists : List (List Mark)) (x : M) → lists ≡ [] → Shows r (key_of unit times labels letters) (weight_of r labels letters) fits value_at [] x
-        → Shows r (key_of unit times labels letters) (weight_of r labels letters) fits value_at lists x
-    none-of lists x is none = subst (λ l. Shows r (key_of unit times labels letters) (weight_of r labels letters) fits value_at l x) (sym is) none
-
-    pub none-one : (shape ≡ Sublists) ⊎ (shape ≡ Assign) → (maps : List M) → maps ≡ z ∷ []
-        → Stands r (key_of unit times labels letters) (weight_of r labels letters) fits value_at shape labels lo lo maps
-    none-one is maps are = elim is [
-      | inl e ↦ subst (λ s. Stands r (key_of unit times labels letters) (weight_of r labels letters) fits value_at s labels lo lo maps) (sym e)
-          (subst (Stands r (key_of unit times labels letters) (weight_of r labels letters) fits value_at Sublists labels lo lo) (sym are)
-          (whole-empty Sublists, tt))
-      | inr e ↦ subst (λ s. Stands r (key_of unit times labels letters) (weight_of r labels letters) fits value_at s labels lo lo maps) (sym e)
-          (subst (Stands r (key_of unit times labels letters) (weight_of r labels letters) fits value_at Assign labels lo lo) (sym are)
-          (whole-empty Assign, tt))
-    ]
-
-    pub none-two : (shape ≡ Prefixes) ⊎ (shape ≡ Suffixes) → (x : M)
-        → Shows r (key_of unit times labels letters) (weight_of r labels letters) fits value_at [] x → (maps : List M) → maps ≡ z ∷ x ∷ []
-        → Stands r (key_of unit times labels letters) (weight_of r labels letters) fits value_at shape labels lo lo maps
-    none-two is x none maps are = elim is [
-      | inl e ↦ subst (λ s. Stands r (key_of unit times labels letters) (weight_of r labels letters) fits value_at s labels lo lo maps) (sym e)
-          (subst (Stands r (key_of unit times labels letters) (weight_of r labels letters) fits value_at Prefixes labels lo lo) (sym are)
-          (whole-empty Prefixes, (none-of (part Prefixes labels Pre lo lo) x (pre-none Prefixes labels lo) none, tt)))
-      | inr e ↦ subst (λ s. Stands r (key_of unit times labels letters) (weight_of r labels letters) fits value_at s labels lo lo maps) (sym e)
-          (subst (Stands r (key_of unit times labels letters) (weight_of r labels letters) fits value_at Suffixes labels lo lo) (sym are)
-          (whole-empty Suffixes, (none-of (part Suffixes labels Suf lo lo) x (suf-none Suffixes labels lo) none, tt)))
-    ]
-
-    pub none-four : shape ≡ Segments → (p s g : M)
-        → Shows r (key_of unit times labels letters) (weight_of r labels letters) fits value_at [] p
-        → Shows r (key_of unit times labels letters) (weight_of r labels letters) fits value_at [] s
-        → Shows r (key_of unit times labels letters) (weight_of r labels letters) fits value_at [] g
-        → (maps : List M) → maps ≡ z ∷ p ∷ s ∷ g ∷ []
-        → Stands r (key_of unit times labels letters) (weight_of r labels letters) fits value_at shape labels lo lo maps
-    none-four e p s g ps ss gs maps are =
-        subst (λ s. Stands r (key_of unit times labels letters) (weight_of r labels letters) fits value_at s labels lo lo maps) (sym e)
-        (subst (Stands r (key_of unit times labels letters) (weight_of r labels letters) fits value_at Segments labels lo lo) (sym are) (
-          whole-empty Segments,
-          (
-            none-of (part Segments labels Pre lo lo) p (pre-none Segments labels lo) ps,
-            (
-              none-of (part Segments labels Suf lo lo) s (suf-none Segments labels lo) ss,
-              (none-of (part Segments labels Seg lo lo) g (seg-none Segments labels lo) gs, tt),
-            ),
-          ),
-        ))

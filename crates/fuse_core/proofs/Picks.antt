@@ -31,7 +31,7 @@ in-append x [] ys x_in = inr x_in
 in-append x (y ∷ xs) ys (inl same) = inl (inl same)
 in-append x (y ∷ xs) ys (inr later) = elim (in-append x xs ys later) [ inl here ↦ inl (inr here) | inr there ↦ inr there ]
 
-in-map : {X Y : Type 0} (f : X → Y) (y : Y) (xs : List X) → IsIn y (map f xs) → (x : X) × (IsIn x xs) × (y ≡ f x)
+pub in-map : {X Y : Type 0} (f : X → Y) (y : Y) (xs : List X) → IsIn y (map f xs) → (x : X) × (IsIn x xs) × (y ≡ f x)
 in-map f y [] y_in = elim y_in [ ]
 in-map f y (x ∷ xs) (inl same) = (x, inl refl, same)
 in-map f y (x ∷ xs) (inr later) = let found = in-map f y xs later in (found.0, inr found.1, found.2)
@@ -44,7 +44,7 @@ in-flat_map f y (x ∷ xs) y_in =
       | inr later ↦ let found = in-flat_map f y xs later in (found.0, inr found.1, found.2)
     ]
 
-in-range : (i low n : ℕ) → IsIn i (range_with_len low n) → (low ≤ i) × (i < low + n)
+pub in-range : (i low n : ℕ) → IsIn i (range_with_len low n) → (low ≤ i) × (i < low + n)
 in-range i low zero i_in = elim i_in [ ]
 in-range i low (suc n) (inl same) = (omega arith, omega arith)
 in-range i low (suc n) (inr later) = let found = in-range i (low + 1) n later in (omega arith, omega arith)
@@ -142,7 +142,7 @@ lists-pick shape labels Seg first count c some c_in = segments-picks labels firs
 
 -- how far weights reach
 
-greatest_below-at : (f : ℕ → ℕ) (n i : ℕ) → i < n → f i ≤ greatest_below f n
+pub greatest_below-at : (f : ℕ → ℕ) (n i : ℕ) → i < n → f i ≤ greatest_below f n
 greatest_below-at f zero i below = absurd (omega arith)
 greatest_below-at f (suc n) i below =
     elim (cases_eq i n) [
@@ -177,7 +177,7 @@ module _ {E : Type 0} {r : SemiringOn E} (laws : IsSemiring r) (labels : ℕ) (l
       ap (λ e. r.reach (weight_of r labels letters e)) is in
       omega arith
 
-  masked-reach : (test : Bool) (a : E) (bound : ℕ) → r.reach a ≤ bound → r.reach (masked r test a) ≤ bound
+  pub masked-reach : (test : Bool) (a : E) (bound : ℕ) → r.reach a ≤ bound → r.reach (masked r test a) ≤ bound
   masked-reach true a bound within = within
   masked-reach false a bound within = let none : r.reach r.zero ≡ 0 = laws.zero_reach in omega arith
 

@@ -1,4 +1,6 @@
 pub mod Letters
 pub mod Stands
 pub mod Plans
+pub mod Wirings
 pub mod Places
+pub mod Components

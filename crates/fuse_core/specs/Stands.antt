@@ -1,11 +1,10 @@
 -- What a map shows of a list of candidates, and when a tuple of maps stands for an interval.
-use Rattle.std.specs.Prelude.{◌≡◌, ℕ, List, [], ◌∷◌, ◌++◌, map, slice_index_or}
-use Rattle.std.specs.List.{flat_map}
+use Rattle.std.specs.Prelude.{◌≡◌, ℕ, List, [], ◌∷◌}
 use Rattle.semiring_kit.specs.Semiring.{SemiringOn}
 use Rattle.semiring_kit.specs.Total.{total_at_key}
 use Rattle.shape_gen.specs.declared.mark.Mark.{Mark}
 use Rattle.shape_gen.specs.declared.shape.Shape.{Shape}
-use Rattle.shape_gen.specs.Parts.{Component, Whole, components, part}
+use Rattle.shape_gen.specs.Parts.{Component, components, part}
 
 -- at each key, the value is the sum of the weights of those lists that have this key
 abbrev pub ShowsSums : {E : Type 0} → SemiringOn E → (List Mark → ℕ) → (List Mark → E) → List (List Mark) → (ℕ → E) → Type 0
@@ -24,19 +23,8 @@ HoldsOfEach P [] (map ∷ maps) = ⊥
 HoldsOfEach P (component ∷ components) [] = ⊥
 HoldsOfEach P (component ∷ components) (map ∷ maps) = P component map × HoldsOfEach P components maps
 
--- maps stand for the rows lo..hi: there is one for each component of the shape, which shows its part
-abbrev pub StandsBy : {M : Type 0} → (List (List Mark) → M → Type 0) → Shape → ℕ → ℕ → ℕ → List M → Type 0
-StandsBy shows shape labels lo hi maps =
-    HoldsOfEach (λ component map. shows (part shape labels component lo hi) map) (components shape) maps
-
--- maps stand for the rows lo..hi, each showing the sums of its part
+-- maps stand for the rows lo..hi: there is one for each component of the shape, which shows the sums of its part
 abbrev pub Stands : {E M : Type 0} → SemiringOn E → (List Mark → ℕ) → (List Mark → E) → (M → Type 0) → (M → ℕ → E)
     → Shape → ℕ → ℕ → ℕ → List M → Type 0
 Stands r key weight fits value_at shape labels lo hi maps =
-    StandsBy (Shows r key weight fits value_at) shape labels lo hi maps
-
--- the lists of the component at one place of lo..mid, each joined with each list of that at another of mid..hi
-unfoldable pub crossings : Shape → ℕ → ℕ → ℕ → ℕ → ℕ → ℕ → List (List Mark)
-crossings shape labels earlier later lo mid hi =
-    let lists = λ (place first last : ℕ). part shape labels (slice_index_or (components shape) place Whole) first last in
-    flat_map (λ c. map (λ d. c ++ d) (lists later mid hi)) (lists earlier lo mid)
+    HoldsOfEach (λ component map. Shows r key weight fits value_at (part shape labels component lo hi) map) (components shape) maps

@@ -89,7 +89,7 @@ fn with_key<K: MapKit>(
 {
     if accept[key as usize] {
         let value = kit.get(alloc, map, key)?;
-        kit.kit().add(alloc, &sum, &value)
+        kit.kit().sum(alloc, sum, value)
     } else {
         Ok(sum)
     }
@@ -110,7 +110,7 @@ fn with_empty<K: MapKit>(
 {
     if accept[kit.keys().unit() as usize] {
         let one = kit.kit().one(alloc)?;
-        kit.kit().add(alloc, &one, &sum)
+        kit.kit().sum(alloc, one, sum)
     } else {
         Ok(sum)
     }

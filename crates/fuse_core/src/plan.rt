@@ -6,10 +6,12 @@ ghost use Rattle.semiring_kit.specs.Semiring.{IsGood, weight_bound};
 ghost use Rattle.shape_gen.specs.declared.shape.Shape.TheVariants.{Assign};
 ghost use Rattle.fuse_core.specs.Letters.{rows_reach};
 
+use crate::growing::{no_row, with_row};
+use crate::joining::joined;
 use crate::letter::{Letter, Tuple};
-use crate::pieces::Pieces;
-use crate::rows::Rows;
-use crate::tuples::{four_maps, one_map, two_maps};
+use crate::maps::Maps;
+use crate::shapes::wiring_of;
+use crate::wiring::Wires;
 use interval_kit::Fused;
 use key_map::MapKit;
 use monoid_kit::Monoid;
@@ -108,7 +110,7 @@ impl<K: MapKit> Fused for Plan<K> {
         self.rows
     }
 
-    /// From the last row to the first, each row's own tuple on the left.
+    /// From the last row to the first.
     fn leaf<L: Ledger>(
         &self,
         alloc: Global,
@@ -116,42 +118,45 @@ impl<K: MapKit> Fused for Plan<K> {
         hi: u32,
         steps: &mut Steps<L>,
     ) -> Result<Tuple<K::Map>, AllocError> {
-        let mut value = self.no_row(alloc)?;
+        let wiring = self.components(alloc)?;
+        let mut maps = no_row(self, alloc, &wiring)?;
         for row in (lo..hi).rev() {
-            value = self.with_row(alloc, row, hi, &value, steps)?;
+            maps = with_row(self, alloc, row, &wiring, maps, steps)?;
         }
-        Ok(value)
+        Ok(Tuple { maps })
     }
 
     fn join<L: Ledger>(
         &self,
         alloc: Global,
-        lo: u32,
-        mid: u32,
-        hi: u32,
+        _lo: u32,
+        _mid: u32,
+        _hi: u32,
         left: &Tuple<K::Map>,
         right: &Tuple<K::Map>,
         steps: &mut Steps<L>,
     ) -> Result<Tuple<K::Map>, AllocError> {
-        self.joined(alloc, lo, mid, hi, left, right, steps)
+        let wiring = self.components(alloc)?;
+        let maps = joined(self, alloc, &wiring, &left.maps, &right.maps, steps)?;
+        Ok(Tuple { maps })
     }
 }
 
-impl<K: MapKit> Pieces for Plan<K> {
-    ghost use Rattle.fuse_core.specs.Letters.{key_of, weight_of};
+impl<K: MapKit> Maps for Plan<K> {
+    ghost use Rattle.fuse_core.specs.Letters.{elem_at, key_of, weight_of, HasLetters};
     ghost use Rattle.fuse_core.specs.Stands.{Shows};
+    ghost use Rattle.fuse_core.specs.Wirings.{wiring};
+    ghost use Rattle.key_map.specs.Maps.{ReachesAddUp};
 
     type Map = K::Map;
 
-    ghost shape = { λ p. p.shape };
+    ghost rows = { λ p. p.rows };
 
     ghost labels = { λ p. p.labels };
-
-    ghost rows = { λ p. p.rows };
 
     ghost size = { λ p. K.Keys.size (K.keys p.kit) };
 
-    ghost kept = { λ p map. K.kept p.kit map };
+    ghost fits = { λ p map. K.fits p.kit map };
 
     ghost shows = { λ p lists map. Shows
         (K.Kit.ring (K.kit p.kit))
@@ -162,209 +167,39 @@ impl<K: MapKit> Pieces for Plan<K> {
         lists
         map };
 
-    fn crossing<L: Ledger>(
-        &self,
-        alloc: Global,
-        _lo: u32,
-        _mid: u32,
-        _hi: u32,
-        earlier: usize,
-        later: usize,
-        left: &Tuple<K::Map>,
-        right: &Tuple<K::Map>,
-        steps: &mut Steps<L>,
-    ) -> Result<K::Map, AllocError> {
-        self.kit
-            .convolve(alloc, &left.maps[earlier], &right.maps[later], steps)
-    }
+    ghost follows = { λ p row label map. (k : ℕ)
+        → (K.Kit.ring (K.kit p.kit)).reach
+        (elem_at (K.Kit.ring (K.kit p.kit)).one p.letters (row * p.labels + label))
+        + (K.Kit.ring (K.kit p.kit)).reach (K.value_at p.kit map k)
+        ≤ weight_bound };
 
-    fn joined_whole<L: Ledger>(
-        &self,
-        alloc: Global,
-        lo: u32,
-        mid: u32,
-        hi: u32,
-        left: &Tuple<K::Map>,
-        right: &Tuple<K::Map>,
-        steps: &mut Steps<L>,
-    ) -> Result<K::Map, AllocError> {
-        self.crossing(alloc, lo, mid, hi, 0, 0, left, right, steps)
-    }
-
-    fn all_prefixes(
-        &self,
-        alloc: Global,
-        _lo: u32,
-        _mid: u32,
-        _hi: u32,
-        left: &Tuple<K::Map>,
-        crossing: &K::Map,
-    ) -> Result<K::Map, AllocError> {
-        self.kit.add(alloc, &left.maps[1], crossing)
-    }
-
-    fn joined_prefixes<L: Ledger>(
-        &self,
-        alloc: Global,
-        lo: u32,
-        mid: u32,
-        hi: u32,
-        left: &Tuple<K::Map>,
-        right: &Tuple<K::Map>,
-        steps: &mut Steps<L>,
-    ) -> Result<K::Map, AllocError> {
-        let crossing = self.crossing(alloc, lo, mid, hi, 0, 1, left, right, steps)?;
-        self.all_prefixes(alloc, lo, mid, hi, left, &crossing)
-    }
-
-    fn all_suffixes(
-        &self,
-        alloc: Global,
-        _lo: u32,
-        _mid: u32,
-        _hi: u32,
-        place: usize,
-        right: &Tuple<K::Map>,
-        crossing: &K::Map,
-    ) -> Result<K::Map, AllocError> {
-        self.kit.add(alloc, &right.maps[place], crossing)
-    }
-
-    fn joined_suffixes<L: Ledger>(
-        &self,
-        alloc: Global,
-        lo: u32,
-        mid: u32,
-        hi: u32,
-        place: usize,
-        left: &Tuple<K::Map>,
-        right: &Tuple<K::Map>,
-        steps: &mut Steps<L>,
-    ) -> Result<K::Map, AllocError> {
-        let crossing = self.crossing(alloc, lo, mid, hi, place, 0, left, right, steps)?;
-        self.all_suffixes(alloc, lo, mid, hi, place, right, &crossing)
-    }
-
-    fn all_segments(
-        &self,
-        alloc: Global,
-        _lo: u32,
-        _mid: u32,
-        _hi: u32,
-        left: &Tuple<K::Map>,
-        right: &Tuple<K::Map>,
-        crossing: &K::Map,
-    ) -> Result<K::Map, AllocError> {
-        let others = self.kit.add(alloc, &right.maps[3], crossing)?;
-        self.kit.add(alloc, &left.maps[3], &others)
-    }
-
-    fn joined_segments<L: Ledger>(
-        &self,
-        alloc: Global,
-        lo: u32,
-        mid: u32,
-        hi: u32,
-        left: &Tuple<K::Map>,
-        right: &Tuple<K::Map>,
-        steps: &mut Steps<L>,
-    ) -> Result<K::Map, AllocError> {
-        let crossing = self.crossing(alloc, lo, mid, hi, 2, 1, left, right, steps)?;
-        self.all_segments(alloc, lo, mid, hi, left, right, &crossing)
-    }
-
-    fn joined<L: Ledger>(
-        &self,
-        alloc: Global,
-        lo: u32,
-        mid: u32,
-        hi: u32,
-        left: &Tuple<K::Map>,
-        right: &Tuple<K::Map>,
-        steps: &mut Steps<L>,
-    ) -> Result<Tuple<K::Map>, AllocError> {
-        let whole = self.joined_whole(alloc, lo, mid, hi, left, right, steps)?;
-        match self.shape {
-            Shape::Sublists | Shape::Assign => one_map(alloc, whole),
-            Shape::Prefixes => {
-                let pre = self.joined_prefixes(alloc, lo, mid, hi, left, right, steps)?;
-                two_maps(alloc, whole, pre)
-            }
-            Shape::Suffixes => {
-                let suf = self.joined_suffixes(alloc, lo, mid, hi, 1, left, right, steps)?;
-                two_maps(alloc, whole, suf)
-            }
-            Shape::Segments => {
-                let pre = self.joined_prefixes(alloc, lo, mid, hi, left, right, steps)?;
-                let suf = self.joined_suffixes(alloc, lo, mid, hi, 2, left, right, steps)?;
-                let seg = self.joined_segments(alloc, lo, mid, hi, left, right, steps)?;
-                four_maps(alloc, whole, pre, suf, seg)
-            }
-        }
-    }
-
-    #[tactic(auto, using(crate::proofs::Costs::few_times))]
-    fn with_row<L: Ledger>(
-        &self,
-        alloc: Global,
-        row: u32,
-        hi: u32,
-        later: &Tuple<K::Map>,
-        steps: &mut Steps<L>,
-    ) -> Result<Tuple<K::Map>, AllocError> {
-        let one = self.one_row(alloc, row)?;
-        self.joined(alloc, row, row + 1, hi, &one, later, steps)
-    }
-}
-
-impl<K: MapKit> Rows for Plan<K> {
-    ghost use Rattle.fuse_core.specs.Letters.{key_of, weight_of};
-    ghost use Rattle.fuse_core.specs.Stands.{Shows};
-
-    type Map = K::Map;
-
-    ghost shape = { λ p. p.shape };
-
-    ghost labels = { λ p. p.labels };
-
-    ghost rows = { λ p. p.rows };
-
-    ghost kept = { λ p map. K.kept p.kit map };
-
-    ghost shows = { λ p lists map. Shows
+    ghost crosses = { λ p a b. ReachesAddUp
         (K.Kit.ring (K.kit p.kit))
-        (key_of (K.Keys.unit (K.keys p.kit)) (K.Keys.mul (K.keys p.kit)) p.labels p.letters)
-        (weight_of (K.Kit.ring (K.kit p.kit)) p.labels p.letters)
-        (K.fits p.kit)
-        (K.value_at p.kit)
-        lists
-        map };
+        (K.value_at p.kit a)
+        (K.value_at p.kit b) };
 
-    fn empty(&self, alloc: Global) -> Result<K::Map, AllocError> {
-        let unit = self.kit.keys().unit();
-        let one = self.kit.kit().one(alloc)?;
-        self.kit.single(alloc, unit, one)
+    ghost components = { λ p. wiring p.shape p.labels };
+
+    ghost is_lawful = { λ p. HasLetters
+        (K.Kit.ring (K.kit p.kit))
+        (K.Keys.size (K.keys p.kit))
+        p.shape
+        p.rows
+        p.labels
+        p.letters };
+
+    fn components(&self, alloc: Global) -> Result<Vec<Wires>, AllocError> {
+        wiring_of(alloc, self.shape, self.labels)
     }
 
     fn nothing(&self, alloc: Global) -> Result<K::Map, AllocError> {
         self.kit.none(alloc)
     }
 
-    fn no_row(&self, alloc: Global) -> Result<Tuple<K::Map>, AllocError> {
-        let whole = self.empty(alloc)?;
-        match self.shape {
-            Shape::Sublists | Shape::Assign => one_map(alloc, whole),
-            Shape::Prefixes | Shape::Suffixes => {
-                let part = self.nothing(alloc)?;
-                two_maps(alloc, whole, part)
-            }
-            Shape::Segments => {
-                let pre = self.nothing(alloc)?;
-                let suf = self.nothing(alloc)?;
-                let seg = self.nothing(alloc)?;
-                four_maps(alloc, whole, pre, suf, seg)
-            }
-        }
+    fn empty(&self, alloc: Global) -> Result<K::Map, AllocError> {
+        let unit = self.kit.keys().unit();
+        let one = self.kit.kit().one(alloc)?;
+        self.kit.single(alloc, unit, one)
     }
 
     fn marked(&self, alloc: Global, row: u32, label: u32) -> Result<K::Map, AllocError> {
@@ -373,38 +208,34 @@ impl<K: MapKit> Rows for Plan<K> {
         self.kit.single(alloc, letter.key, elem)
     }
 
-    fn chosen(&self, alloc: Global, row: u32) -> Result<K::Map, AllocError> {
-        let kit = &self.kit;
-        let empty = self.empty(alloc)?;
-        let marked = self.marked(alloc, row, 0)?;
-        kit.add(alloc, &empty, &marked)
+    fn same(&self, alloc: Global, map: &K::Map) -> Result<K::Map, AllocError> {
+        self.kit.copy(alloc, map)
     }
 
-    fn labelled(&self, alloc: Global, row: u32) -> Result<K::Map, AllocError> {
-        let mut sum = self.kit.none(alloc)?;
-        for label in 0..self.labels {
-            let marked = self.marked(alloc, row, label)?;
-            sum = self.kit.add(alloc, &sum, &marked)?;
-        }
-        Ok(sum)
+    fn both(&self, alloc: Global, a: K::Map, b: K::Map) -> Result<K::Map, AllocError> {
+        self.kit.sum(alloc, a, b)
     }
 
-    fn one_row(&self, alloc: Global, row: u32) -> Result<Tuple<K::Map>, AllocError> {
-        match self.shape {
-            Shape::Sublists => one_map(alloc, self.chosen(alloc, row)?),
-            Shape::Assign => one_map(alloc, self.labelled(alloc, row)?),
-            Shape::Prefixes | Shape::Suffixes => {
-                let whole = self.marked(alloc, row, 0)?;
-                let part = self.marked(alloc, row, 0)?;
-                two_maps(alloc, whole, part)
-            }
-            Shape::Segments => {
-                let whole = self.marked(alloc, row, 0)?;
-                let pre = self.marked(alloc, row, 0)?;
-                let suf = self.marked(alloc, row, 0)?;
-                let seg = self.marked(alloc, row, 0)?;
-                four_maps(alloc, whole, pre, suf, seg)
-            }
-        }
+    fn before<L: Ledger>(
+        &self,
+        alloc: Global,
+        row: u32,
+        label: u32,
+        later: &K::Map,
+        steps: &mut Steps<L>,
+    ) -> Result<K::Map, AllocError> {
+        let letter = &self.letters[row as usize * self.labels as usize + label as usize];
+        self.kit
+            .shifted(alloc, letter.key, &letter.elem, later, steps)
+    }
+
+    fn across<L: Ledger>(
+        &self,
+        alloc: Global,
+        a: &K::Map,
+        b: &K::Map,
+        steps: &mut Steps<L>,
+    ) -> Result<K::Map, AllocError> {
+        self.kit.convolve(alloc, a, b, steps)
     }
 }

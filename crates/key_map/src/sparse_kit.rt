@@ -82,6 +82,9 @@ impl<S: Semiring, M: Monoid> MapKit for SparseKit<S, M> {
     }
 
     fn sum(&self, alloc: Global, a: Self::Map, b: Self::Map) -> Result<Self::Map, AllocError> {
+        if a.is_empty() {
+            return Ok(b);
+        }
         let mut sums = Vec::with_capacity(alloc, a.len().saturating_add(b.len()))?;
         let (mut left, mut right) = (VecDeque::from(a), VecDeque::from(b));
         while let Some(slot) = self.take_least(alloc, &mut left, &mut right)? {

@@ -1,5 +1,9 @@
-use Rattle.std.proofs.Common.{ap, length, arith}
+use Rattle.std.proofs.Common.{sym, ◌∙◌, ap, length, vec_len, arith}
+use Rattle.std.proofs.lemmas.Bool.{eqb-true}
+use Rattle.key_map.specs.Slots.{value_in}
+use Rattle.key_map.specs.SlotLaws.{value_in_is_good}
 use Rattle.key_map.proofs.Slots.{fits-good}
+use Rattle.key_map.proofs.Gathers.{no_item}
 use Rattle.key_map.proofs.Merges.{merging-start, merging-step, merging-end, next_of, none_left}
 use Rattle.key_map.proofs.sparse_kit.SparseKitMapKit.sum.Goals as goal
 
@@ -44,6 +48,17 @@ loop-right-smaller g c =
     let left = ap length (rw c.in-Some.is at c.in_ok-slot.ensures.left) in
     let right = ap length (rw c.in-Some.is at c.in_ok-slot.ensures.right) in
     omega arith
+
+pub returns-then-is_empty-clause-value : goal.returns-then-is_empty-clause-value
+returns-then-is_empty-clause-value g c k =
+    let ring = g.S.Semiring.ring c.args.self.now.kit in
+    let laws = g.met.S.Semiring.laws c.args.self.now.kit in
+    let size = g.M.Monoid.size c.args.self.now.keys in
+    let b = c.args.b.items in
+    let zero = eqb-true (vec_len c.args.a) 0 (sym c.is_empty.ensures ∙ c.if-is_empty.true) in
+    let none = no_item c.args.a.items (omega (arith, zero)) in
+    sym (laws.addition.monoid.left_identity (value_in ring.zero b k) (value_in_is_good laws 0 size b k c.requires.right_fits).sound)
+    ∙ ap (λ slots. ring.add (value_in ring.zero slots k) (value_in ring.zero b k)) (sym none)
 
 pub returns : goal.returns
 returns g c =
