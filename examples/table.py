@@ -1,10 +1,10 @@
 #!/usr/bin/env python3
 # Prints the lines `table` and `times` of a rule on rows that follow one another.
 #
-# A rule is written as states. Before the first row the state is the first one of RULE. A row of each kind leads from each
-# state to a next one. The rule is kept where the last state is one of GOOD. The one below says: at most three working days
-# in a row. Change RULE, GOOD and NAME, run it, paste its lines into a job, and write behind each `if` which rows are of
-# that kind.
+# A rule is written as states. Before the first row the state is the first one of RULE. A row of each kind leads from
+# each state to a next one. The rule is kept where the last state is one of GOOD. The one below says: at most three
+# working days in a row. Change RULE, GOOD and NAME, run it, paste its lines into a job, and write behind each `if`
+# which rows are of that kind.
 RULE = {
     "none": {"r": "none", "w": "one"},
     "one": {"r": "none", "w": "two"},
