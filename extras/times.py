@@ -6,6 +6,7 @@ import sys
 import time
 
 MOST = 60
+too_long = set()
 
 
 def job(rows, bound, asked):
@@ -16,12 +17,15 @@ def job(rows, bound, asked):
 
 
 def seconds(rows, bound, asked="max", words=()):
-    """How long a run takes, as a text."""
+    """How long a run takes, as a text. What is larger than a run that took too long isn't run."""
+    if any(rows >= it[0] and bound >= it[1] and asked == it[2] for it in too_long):
+        return f"more than {MOST}"
     began = time.monotonic()
     try:
         given = {"input": job(rows, bound, asked), "text": True, "stdout": subprocess.DEVNULL, "timeout": MOST}
         subprocess.run([sys.argv[1], "run", *words], check=True, **given)
     except subprocess.TimeoutExpired:
+        too_long.add((rows, bound, asked))
         return f"more than {MOST}"
     took = time.monotonic() - began
     return f"{took:.2f}" if took < 1 else f"{took:.1f}" if took < 10 else f"{took:.0f}"
