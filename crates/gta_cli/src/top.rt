@@ -33,10 +33,9 @@ pub fn gta_main<R: Threads + Sync, S: Source, O: Sink, E: Sink>(
     err: &mut E,
 ) -> u8
     // How the call ends, by its status; and so, with no fault, what was asked for is answered or refused.
-    ensures ends {
-        let asked = command_of (map string_bytes words.now) in
+    ensures ends { let asked = command_of (map string_bytes words.now) in
         let read = stream (S.left source.old) (S.left source.new) (S.faults source.old) (S.faults source.new)
-            (source.new ≡ source.old) in
+        (source.new ≡ source.old) in
         let gone = stream (O.gone out.old) (O.gone out.new) (O.faults out.old) (O.faults out.new) (out.new ≡ out.old) in
         let said = stream (E.gone err.old) (E.gone err.new) (E.faults err.old) (E.faults err.new) (err.new ≡ err.old) in
         (status : Status) × (result ≡ number_of status) × Ends asked read gone said status
@@ -57,10 +56,9 @@ fn ended<R: Threads + Sync, S: Source, O: Sink, E: Sink>(
     out: &mut O,
     err: &mut E,
 ) -> Status
-    ensures ends {
-        let asked = command_of (map string_bytes words.now) in
+    ensures ends { let asked = command_of (map string_bytes words.now) in
         let read = stream (S.left source.old) (S.left source.new) (S.faults source.old) (S.faults source.new)
-            (source.new ≡ source.old) in
+        (source.new ≡ source.old) in
         let gone = stream (O.gone out.old) (O.gone out.new) (O.faults out.old) (O.faults out.new) (out.new ≡ out.old) in
         let said = stream (E.gone err.old) (E.gone err.new) (E.faults err.old) (E.faults err.new) (err.new ≡ err.old) in
         Ends asked read gone said result }

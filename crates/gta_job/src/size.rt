@@ -17,7 +17,12 @@ use report_text::Refusal;
 pub const SIZE_LIMIT: u64 = 67108864;
 
 /// Refuses a job of so many keys whose size is past the limit.
-pub(crate) fn refuse_size(checked: &Checked, rows: &Rows, keys: u32, leaf: u32) -> Result<(), JobEnd>
+pub(crate) fn refuse_size(
+    checked: &Checked,
+    rows: &Rows,
+    keys: u32,
+    leaf: u32,
+) -> Result<(), JobEnd>
     requires keys { keys ≡ tests.key_count checked.now }
     requires few_keys { keys ≤ KEY_LIMIT }
     requires few { rows.now.count ≤ ROW_LIMIT }

@@ -26,7 +26,8 @@ pub(crate) fn slots_of<E: Drop>(
     requires { length row.items < 2 ^ 32 }
     ensures { IfOk result (λ slots. slots.items ≡ slots_from 0 row.items) }
 {
-    let mut slots = Vec::with_capacity(alloc, row.len())?;
+    let kept = row.iter().filter(|place| place.is_some()).count();
+    let mut slots = Vec::with_capacity(alloc, kept)?;
     let mut key = 0;
     for place in row {
         if let Some(elem) = place {
