@@ -23,6 +23,11 @@ module _ {S T : Type 0} where
   then-ends step next (job.Refused refusal) is = ap (λ step. and_then step next) is
   then-ends step next job.Memory is = tt
 
+  -- where a step gives a value, what follows decides
+  pub then-later : (step : Result S Refusal) (value : S) (next : S → Result T Refusal) (end : JobEnd)
+      → step ≡ Ok value → Ends (next value) end → Ends (and_then step next) end
+  then-later step value next end is ends = subst (λ outcome. Ends outcome end) (sym (ap (λ step. and_then step next) is)) ends
+
 module _ {T : Type 0} where
   pub unless-ends : (refusal : Option Refusal) (next : Result T Refusal) (end : JobEnd) → Stops refusal end
       → Ends (unless refusal next) end

@@ -123,7 +123,7 @@ drill_outcome leaf seed rows =
     and_then (part_outcome leaf seed rows Best) (λ best.
     and_then (part_outcome leaf seed rows Greatest) (λ greatest.
     and_then (part_outcome leaf seed rows Segments) (λ segments.
-    Ok (heading seed rows ++ (best ++ (greatest ++ segments))))))
+    Ok (((heading seed rows ++ best) ++ greatest) ++ segments))))
 
 -- what a command comes to on bytes: the text that it prints, or the first of its refusals. The number of workers
 -- shows nowhere, and that of a leaf's rows in the refusal of the size alone
