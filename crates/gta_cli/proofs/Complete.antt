@@ -44,16 +44,16 @@ module _ (asked : Option Command) (source out err : Stream) where
   answered-complete ends = record {
     answered = λ text known fed gone. inl refl;
     refused = λ refusal known fed said.
-        apart ends.0.0 refusal (sym (one_outcome asked source.old (Err refusal) (Ok ends.0.0) known ends.0.1.0));
-    usage = λ none said. absurd (no_words asked source.old (Ok ends.0.0) none ends.0.1.0);
+        apart ends.0.0 refusal (sym (one_outcome asked source.old (Err refusal) (Ok ends.0.0) known ends.0.1));
+    usage = λ none said. absurd (no_words asked source.old (Ok ends.0.0) none ends.0.1);
   }
 
   refused-complete : Ends asked source out err status.Refused → IsComplete asked source out err status.Refused
   refused-complete ends = record {
     answered = λ text known fed gone.
-        apart text ends.0.0 (one_outcome asked source.old (Ok text) (Err ends.0.0) known ends.0.1.0);
+        apart text ends.0.0 (one_outcome asked source.old (Ok text) (Err ends.0.0) known ends.0.1);
     refused = λ refusal known fed said. inl refl;
-    usage = λ none said. absurd (no_words asked source.old (Err ends.0.0) none ends.0.1.0);
+    usage = λ none said. absurd (no_words asked source.old (Err ends.0.0) none ends.0.1);
   }
 
   usage-complete : Ends asked source out err status.Usage → IsComplete asked source out err status.Usage
@@ -65,27 +65,27 @@ module _ (asked : Option Command) (source out err : Stream) where
 
   read_fault-complete : Ends asked source out err status.ReadFault → IsComplete asked source out err status.ReadFault
   read_fault-complete ends = record {
-    answered = λ text known fed gone. absurd (fed ends.1.0);
-    refused = λ refusal known fed said. absurd (fed ends.1.0);
+    answered = λ text known fed gone. absurd (fed ends.1);
+    refused = λ refusal known fed said. absurd (fed ends.1);
     usage = λ none said. absurd (no_reader asked _ none ends.0);
   }
 
   no_text-known : (text line : List ℕ) → IsKnown asked source.old (Ok text) → IsDue asked source.old line → ⊥
   no_text-known text line known (inl due) =
-      apart text due.0 (one_outcome asked source.old (Ok text) (Err due.0) known due.1.0)
+      apart text due.0 (one_outcome asked source.old (Ok text) (Err due.0) known due.1)
   no_text-known text line known (inr due) = none_known asked source.old (Ok text) due.0 known
 
   write_fault-complete : Ends asked source out err status.WriteFault → IsComplete asked source out err status.WriteFault
   write_fault-complete (inl text, steady) = record {
-    answered = λ t known fed gone. absurd (gone text.1.1.0.0);
+    answered = λ t known fed gone. absurd (gone text.2.0);
     refused = λ refusal known fed said.
-        apart text.0 refusal (sym (one_outcome asked source.old (Err refusal) (Ok text.0) known text.1.0));
-    usage = λ none said. absurd (no_words asked source.old (Ok text.0) none text.1.0);
+        apart text.0 refusal (sym (one_outcome asked source.old (Err refusal) (Ok text.0) known text.1));
+    usage = λ none said. absurd (no_words asked source.old (Ok text.0) none text.1);
   }
   write_fault-complete (inr line, steady) = record {
-    answered = λ t known fed gone. absurd (no_text-known t line.0 known line.1.0);
-    refused = λ refusal known fed said. absurd (said line.1.1.0.0);
-    usage = λ none said. absurd (said line.1.1.0.0);
+    answered = λ t known fed gone. absurd (no_text-known t line.0 known line.1);
+    refused = λ refusal known fed said. absurd (said line.2.0);
+    usage = λ none said. absurd (said line.2.0);
   }
 
   pub ends-complete : (end : Status) → Ends asked source out err end → IsComplete asked source out err end

@@ -1,10 +1,13 @@
 //! From words and a source to a text, or why there is none. Nothing is written here.
 //! specs/Causes.antt says when each ending comes.
 
-ghost use Rattle.std.specs.Prelude.{◌≡◌, Some, Ok, map, string_bytes, IfOk, IfErr, IfSome, OnOk};
+ghost use Rattle.std.specs.Prelude.{◌≡◌, ◌≤◌, Some, Ok, length, map, string_bytes, IfOk, IfErr, IfSome, OnOk};
+ghost use Rattle.std.specs.Io.KnownBytes.{Consumes, IsAtEnd};
 ghost use Rattle.gta_words.specs.Words.{IsWithinOptions, command_of};
 ghost use Rattle.gta_cli.specs.Causes.{Explains};
-ghost use Rattle.gta_cli.specs.Endings.{ComesTo, IsDrill, IsReadWhole, stream};
+ghost use Rattle.gta_words.specs.declared.words.Command.{Command};
+ghost use Rattle.gta_job.specs.declared.job.TheConstants.{INPUT_LIMIT};
+ghost use Rattle.gta_cli.specs.Endings.{ComesTo, IsDrill, IsReader, IsReadWhole, stream};
 
 use gta_job::{INPUT_LIMIT, JobEnd, answer_job, drill_job, list_job, show_job};
 use gta_port::{ReadEnd, Source, read_all};
@@ -103,15 +106,15 @@ fn text_by<R: Threads + Sync, S: Source>(
 {
     match command {
         Command::Run { workers, leaf } => {
-            let bytes = read_all(alloc, source, INPUT_LIMIT)?;
+            let bytes = input(alloc, source)?;
             Ok(answer_job(rt, alloc, bytes.as_slice(), workers, leaf)?)
         }
         Command::Show => {
-            let spec = read_all(alloc, source, INPUT_LIMIT)?;
+            let spec = input(alloc, source)?;
             Ok(show_job(alloc, spec.as_slice())?)
         }
         Command::List => {
-            let job = read_all(alloc, source, INPUT_LIMIT)?;
+            let job = input(alloc, source)?;
             Ok(list_job(alloc, job.as_slice())?)
         }
         Command::Drill {
@@ -121,4 +124,17 @@ fn text_by<R: Threads + Sync, S: Source>(
             leaf,
         } => Ok(drill_job(rt, alloc, seed, rows, workers, leaf)?),
     }
+}
+
+/// The bytes that the source has left, which a command that reads them is over.
+fn input<S: Source>(alloc: Global, source: &mut S) -> Result<Vec<u8>, Ending>
+    ensures bytes { IfOk result (λ bytes. Consumes (S.left source.old) (S.left source.new) bytes.items) }
+    ensures end { OnOk result (IsAtEnd (S.left source.new)) }
+    ensures within { IfOk result (λ bytes. length bytes.items ≤ INPUT_LIMIT) }
+    ensures steady { OnOk result (S.faults source.new ≡ S.faults source.old) }
+    ensures cause { IfErr result (λ ending. (command : Command) → IsReader (Some command)
+        → Explains (Some command) (stream (S.left source.old) (S.left source.new) (S.faults source.old)
+        (S.faults source.new) (source.new ≡ source.old)) ending) }
+{
+    Ok(read_all(alloc, source, INPUT_LIMIT)?)
 }
