@@ -3,7 +3,9 @@
 #![tactic(auto)]
 
 mod drill;
+mod law;
 mod table;
 
 pub use drill::{BYTES_LIMIT, Drill, drill_text, heading};
+pub use law::drill_limits;
 pub use table::ROWS_LIMIT;

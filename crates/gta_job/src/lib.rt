@@ -6,6 +6,7 @@
 
 mod drilling;
 mod job;
+mod law;
 mod listing;
 mod rows_job;
 mod size;
@@ -13,5 +14,6 @@ mod steps;
 
 pub use drilling::drill_job;
 pub use job::{INPUT_LIMIT, JobEnd, answer_job, answer_with, show_job};
+pub use law::job_limits;
 pub use listing::{CANDIDATE_LIMIT, MARK_LIMIT, list_job};
 pub use size::SIZE_LIMIT;

@@ -51,7 +51,6 @@ pub(crate) fn rows_report<R: Threads + Sync, G: Gate + Sync>(
 /// The tests as letters and keys, over rows without a negative value; or the refusal of too many keys.
 fn tests_of(alloc: Global, checked: &Checked, rows: &Rows) -> Result<Tests, JobEnd>
     requires columns { HasColumnsOf checked.now (plain_rows rows.now) }
-    requires few { rows.now.count ≤ ROW_LIMIT }
     requires natural { first_negative checked.now (plain_rows rows.now) ≡ None }
     ensures passes { Passes (keys_refusal checked.now) result }
     ensures prepared { IfOk result (ArePrepared checked.now (plain_rows rows.now)) }

@@ -5,6 +5,7 @@
 #![tactic(auto)]
 
 mod calls;
+mod law;
 mod memory;
 mod ports;
 mod reading;
@@ -13,6 +14,7 @@ mod steady;
 mod unread;
 mod writing;
 
+pub use law::port_limits;
 pub use memory::{MemorySink, MemorySource};
 pub use ports::{Failed, Sink, Source};
 pub use reading::{LARGEST_LIMIT, ReadEnd, read_all};

@@ -5,9 +5,11 @@
 #![tactic(auto)]
 
 mod commands;
+mod law;
 mod reading;
 mod words;
 
+pub use law::word_limits;
 pub use words::{
-    Command, DRILL_LIMIT, LEAF, LEAF_LIMIT, WORKER_LIMIT, WORKERS, WordsFault, read_words,
+    Command, DRILL_LIMIT, LEAF, LEAF_LIMIT, SEED_LIMIT, WORKER_LIMIT, WORKERS, WordsFault, read_words,
 };

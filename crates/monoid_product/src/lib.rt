@@ -4,8 +4,10 @@
 
 mod component;
 mod keys;
+mod law;
 mod product;
 
 pub use component::Component;
 pub use keys::{TooLarge, product_of};
+pub use law::product_limits;
 pub use product::{KEY_LIMIT, PART_LIMIT, Product};
