@@ -13,5 +13,6 @@ mod rules;
 mod symbols;
 
 pub use fault::SpecFault;
+pub use gta_spec::Spec;
 pub use law::reading_is_the_grammar;
 pub use reading::{Read, read_spec};

@@ -11,5 +11,6 @@ mod words;
 
 pub use law::word_limits;
 pub use words::{
-    Command, DRILL_LIMIT, LEAF, LEAF_LIMIT, SEED_LIMIT, WORKER_LIMIT, WORKERS, WordsFault, read_words,
+    Command, DRILL_LIMIT, LEAF, LEAF_LIMIT, SEED_LIMIT, WORKER_LIMIT, WORKERS, WordsFault,
+    read_words,
 };
