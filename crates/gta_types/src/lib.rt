@@ -18,6 +18,6 @@ mod resolving;
 mod uses;
 
 pub use checking::check;
-pub use gta_checked::{Checked, Rows};
 pub use fault::CheckFault;
+pub use gta_checked::{Checked, Rows};
 pub use law::resolving_is_resolved_of;

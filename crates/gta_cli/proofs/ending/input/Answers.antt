@@ -14,10 +14,10 @@ returns-in_err-read_all-clause-cause g c =
     let new = c.read_all.new.source in
     let read : Stream = stream (left old) (left new) (faults old) (faults new) (new ≡ old) in
     let told : (command : Command) → IsReader (Some command)
-        → Explains (Some command) read (ending_of_read c.in_err-read_all.field-0.0) =
+    → Explains (Some command) read (ending_of_read c.in_err-read_all.field-0.0) =
     λ command reads. unread-explained command reads read c.in_err-read_all.field-0.0
-        (λ same. c.in_err-read_all.ensures.too_long (ap Err same))
-        (λ same. c.in_err-read_all.ensures.read_fault (ap Err same))
-        (λ same. c.in_err-read_all.ensures.steady_too_long (ap Err same))
-        (λ same. c.in_err-read_all.ensures.steady_memory (ap Err same)) in
+    (λ same. c.in_err-read_all.ensures.too_long (ap Err same))
+    (λ same. c.in_err-read_all.ensures.read_fault (ap Err same))
+    (λ same. c.in_err-read_all.ensures.steady_too_long (ap Err same))
+    (λ same. c.in_err-read_all.ensures.steady_memory (ap Err same)) in
     search rules
