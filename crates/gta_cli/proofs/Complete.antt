@@ -1,5 +1,5 @@
 -- Each end has its cause, so that with no fault there is no other.
-use Rattle.std.proofs.Common.{◌≡◌, ℕ, ◌⊎◌, inl, inr, List, Option, Some, None, Result, Ok, Err, refl, sym, ◌∙◌, subst}
+use Rattle.std.proofs.Common.{◌≡◌, ℕ, inl, inr, List, Option, Some, None, Result, Ok, Err, refl, sym, ◌∙◌}
 use Rattle.std.specs.Prelude.{IfSome}
 use Rattle.std.specs.Option.{IsSomeAnd}
 use Rattle.gta_words.specs.declared.words.Command.{Command}
@@ -8,7 +8,7 @@ use Rattle.gta_job.specs.Outcome.{outcome}
 use Rattle.gta_cli.specs.declared.status.Status.{Status}
 use Rattle.gta_cli.specs.declared.status.Status.TheVariants as status
 use Rattle.gta_cli.specs.Complete.{IsComplete, IsKnown}
-use Rattle.gta_cli.specs.Endings.{ComesTo, Ends, Failed, IsDue, Stream, input_of}
+use Rattle.gta_cli.specs.Endings.{ComesTo, Ends, IsDue, Stream, input_of}
 
 told_once : (known : Option (List ℕ)) (of : List ℕ → Result (List ℕ) Refusal) (a b : Result (List ℕ) Refusal)
     → IsSomeAnd known (λ bytes. of bytes ≡ a) → IfSome known (λ bytes. of bytes ≡ b) → a ≡ b

@@ -1,10 +1,9 @@
 -- How a call ends: for each status when it comes, and what the streams gained. Known bytes of a stream are an `Option`;
 -- where they are not told, nothing is claimed of them.
-use Rattle.std.specs.Prelude.{ℕ, ◌≡◌, ◌⊎◌, List, [], Option, Some, None, IfSome, Result, Ok, Err, map, string_bytes}
+use Rattle.std.specs.Prelude.{ℕ, ◌≡◌, ◌⊎◌, List, [], Option, Some, None, IfSome, Result, Ok, Err}
 use Rattle.std.specs.Option.{IsSomeAnd}
 use Rattle.std.specs.Io.KnownBytes.{Appends, IsAtEnd}
 use Rattle.gta_port.specs.Port.{GainsFront, Rose}
-use Rattle.gta_words.specs.Words.{command_of}
 use Rattle.gta_words.specs.declared.words.Command.{Command}
 use Rattle.gta_words.specs.declared.words.Command.TheVariants.{Run, Show, List as ListKept, Drill}
 use Rattle.report_text.specs.declared.refusal.Refusal.{Refusal}

@@ -1,6 +1,5 @@
 -- A command that reads its source ends as its input does.
-use Rattle.std.proofs.Common.{rules, ◌≡◌, Some, subst, sym}
-use Rattle.gta_words.specs.declared.words.Command.{Command}
+use Rattle.std.proofs.Common.{rules, Some}
 use Rattle.gta_cli.specs.Endings.{IsReader}
 use Rattle.gta_cli.proofs.ending.text_by.Goals as goal
 
