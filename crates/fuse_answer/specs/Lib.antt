@@ -1,4 +1,5 @@
 pub mod Weights
+pub mod Leaves
 pub mod Letters
 pub mod Keys
 pub mod Crews

@@ -6,6 +6,7 @@
 
 mod answers;
 mod crew;
+mod leaves;
 mod letters;
 mod sum;
 

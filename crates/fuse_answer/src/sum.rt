@@ -24,7 +24,7 @@ use gta_checked::{Checked, Rows};
 use gta_meaning::label_count;
 use gta_spec::ROW_LIMIT;
 use interval_kit::{Fused, cut_of};
-use key_map::SparseKit;
+use key_map::{MapKit, SparseKit};
 use monoid_kit::Monoid;
 use semiring_kit::Semiring;
 use std::alloc::{AllocError, Global};
@@ -58,18 +58,9 @@ pub fn sum_of_kept<R: Threads + Sync, G: Gate + Sync, S: Semiring + Sync>(
         IfOk result (λ sum. sum ≡ sum_over (S.ring kit) (S.of_mark kit) weight candidates) }
 {
     let keys = tests.product().twin(alloc)?;
-    sum_by_keys(
-        rt,
-        alloc,
-        crew,
-        gate,
-        checked,
-        rows,
-        kit,
-        keys,
-        tests.letters(),
-        tests.accept(),
-    )
+    let kit = SparseKit { kit, keys };
+    let (letters, accept) = (tests.letters(), tests.accept());
+    sum_by_keys(rt, alloc, crew, gate, checked, rows, kit, letters, accept)
 }
 
 /// The same, with keys of any monoid that decide which candidates pass.
@@ -80,8 +71,7 @@ fn sum_by_keys<R: Threads + Sync, G: Gate + Sync, S: Semiring + Sync, M: Monoid 
     gate: &G,
     checked: &Checked,
     rows: &Rows,
-    kit: S,
-    monoid: M,
+    kit: SparseKit<S, M>,
     keys: &[u32],
     accept: &[bool],
 ) -> Result<S::Elem, AllocError>
@@ -90,44 +80,42 @@ fn sum_by_keys<R: Threads + Sync, G: Gate + Sync, S: Semiring + Sync, M: Monoid 
     requires few { rows.now.count ≤ ROW_LIMIT }
     requires light { first_heavy checked.now (plain_rows rows.now) ≡ None }
     requires decide { DecidePassing checked.now (plain_rows rows.now)
-        (M.size monoid) (M.unit monoid) (M.mul monoid) keys.now accept.now }
+        (M.size kit.keys) (M.unit kit.keys) (M.mul kit.keys) keys.now accept.now }
     ensures { let weight = goal_weight checked.now (plain_rows rows.now) in
         let candidates = kept checked.now (plain_rows rows.now) in
-        IfOk result (λ sum. sum ≡ sum_over (S.ring kit) (S.of_mark kit) weight candidates) }
+        IfOk result (λ sum. sum ≡ sum_over (S.ring kit.kit) (S.of_mark kit.kit) weight candidates) }
 {
-    let plan = plan_by_keys(alloc, checked, rows, kit, monoid, keys)?;
+    let plan = plan_by_keys(alloc, checked, rows, kit, keys)?;
     accepted_sum::<R, G, S, M, Brand>(rt, alloc, crew, gate, &plan, accept, Blank::new(1))
 }
 
 /// The plan of the rows, with a key and the element of a weight for each row and label.
-fn plan_by_keys<S: Semiring, M: Monoid>(
+fn plan_by_keys<K: MapKit>(
     alloc: Global,
     checked: &Checked,
     rows: &Rows,
-    kit: S,
-    monoid: M,
+    kit: K,
     keys: &[u32],
-) -> Result<Plan<SparseKit<S, M>>, AllocError>
+) -> Result<Plan<K>, AllocError>
     requires columns { HasColumnsOf checked.now (plain_rows rows.now) }
     requires few { rows.now.count ≤ ROW_LIMIT }
     requires light { first_heavy checked.now (plain_rows rows.now) ≡ None }
     requires count { length keys.now ≡ rows.now.count * in_range.label_count checked.now }
-    requires keys_are_elements { let size = M.size monoid in
+    requires keys_are_elements { let size = K.Keys.size (K.keys kit) in
         AllElements (λ key. key < size) (λ key. key) keys.now }
     ensures { let weight = goal_weight checked.now (plain_rows rows.now) in
         let labels = in_range.label_count checked.now in
-        let all = letters.letters_of (S.of_mark kit) weight keys.now rows.now.count labels in
+        let all = letters.letters_of (K.Kit.of_mark (K.kit kit)) weight keys.now rows.now.count labels in
         IfOk result (λ plan. plan ≡ record {
           shape = checked.now.shape;
           rows = rows.now.count;
           labels = labels;
-          kit = record { kit = kit; keys = monoid };
+          kit = kit;
           letters = all;
         }) }
 {
-    let letters = letters_of(alloc, checked, rows, &kit, keys)?;
+    let letters = letters_of(alloc, checked, rows, kit.kit(), keys)?;
     let labels = label_count(checked);
-    let kit = SparseKit { kit, keys: monoid };
     Ok(plan_of(*checked.shape(), rows.count, labels, kit, letters))
 }
 

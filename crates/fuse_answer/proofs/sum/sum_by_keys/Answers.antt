@@ -10,11 +10,13 @@ pub returns : goal.returns
 returns g c =
     let checked = c.args.checked.now in
     let rows = plain_rows c.args.rows.now in
-    let of_mark = g.S.Semiring.of_mark c.args.kit in
+    let semiring = c.args.kit.kit in
+    let monoid = c.args.kit.keys in
+    let of_mark = g.S.Semiring.of_mark semiring in
     let weight = goal_weight checked rows in
     let letters = letters_of of_mark weight c.args.keys.now rows.count (label_count checked) in
     subst (λ v. IfOk c.accepted_sum.result (λ sum. sum ≡ v))
-    (accepted-kept_of (g.S.Semiring.ring c.args.kit) of_mark weight checked rows
-    (g.M.Monoid.size c.args.monoid) (g.M.Monoid.unit c.args.monoid) (g.M.Monoid.mul c.args.monoid)
+    (accepted-kept_of (g.S.Semiring.ring semiring) of_mark weight checked rows
+    (g.M.Monoid.size monoid) (g.M.Monoid.unit monoid) (g.M.Monoid.mul monoid)
     c.args.keys.now c.args.accept.now c.requires.decide checked.shape (label_count checked) letters refl refl refl)
     (rw (c.in_ok-plan.ensures) at c.accepted_sum.ensures)
