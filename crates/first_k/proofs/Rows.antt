@@ -1,12 +1,12 @@
 -- The steps of a product: one more product, a row that ends, one more row.
-use Rattle.std.proofs.Common.{◌≡◌, ℕ, zero, suc, ◌+◌, ◌<◌, ◌≤◌, true, List, [], ◌∷◌, ◌++◌, length, map, take, drop, get_or, sym, ap, subst, ◌∙◌, arith, append_assoc, add-one}
+use Rattle.std.proofs.Common.{◌≡◌, ℕ, zero, suc, ◌+◌, ◌<◌, ◌≤◌, true, List, [], ◌∷◌, ◌++◌, length, map, take, drop, get_or, refl, sym, ap, subst, ◌∙◌, arith, append_assoc, add-one}
 use Rattle.std.proofs.Math.Seq.{drop-cons}
-use Rattle.std.proofs.lemmas.List.{append-nil, map-append, take_more, take-append-drop, take_all}
+use Rattle.std.proofs.lemmas.List.{append-nil, length-map, map-append, take_more, take-append-drop, take_all}
 use Rattle.std.specs.declared.cmp.Ordering.{Ordering}
 use Rattle.std.specs.Ordering.{is_gt}
 use Rattle.witness_order.specs.Rankings.{IsRanking}
-use Rattle.witness_order.specs.Ranked.{placed, first_of, Leads, Ascends}
-use Rattle.witness_order.proofs.Firsts.{first_of-left, first_of-first_of, first_of-IsRankedWithin}
+use Rattle.witness_order.specs.Ranked.{placed, first_of, Leads, Ascends, IsRankedWithin}
+use Rattle.witness_order.proofs.Firsts.{first_of-left, first_of-same, first_of-first_of, first_of-IsRankedWithin}
 use Rattle.first_k.specs.FirstK.{products, reach_of}
 use Rattle.first_k.specs.FirstKLaws.{products-append}
 use Rattle.first_k.proofs.Merges.{LeadsAll, LeadsAll-Ascends}
@@ -34,6 +34,14 @@ module _ {E : Type 0} (cmp : E → E → Ordering) (order : IsRanking cmp) where
     Ascends-map : (s : List E) → Ascends cmp s → Ascends cmp (map f s)
     Ascends-map [] ascends = tt
     Ascends-map (x ∷ s) ascends = (leads-map x s ascends.0, Ascends-map s ascends.1)
+
+    -- what is in order stays so
+    first_of-mapped : (k : ℕ) (s : List E) → IsRankedWithin cmp k s → map f s ≡ first_of cmp k (map f s)
+    first_of-mapped k s ranked =
+        let even : length (map f s) ≡ length s = length-map s f in
+        let few = ranked.few in
+        sym (first_of-same cmp order k (map f s)
+        (record { ordered = Ascends-map s ranked.ordered; few = omega (arith, even, few) }))
 
     -- a row's later products come after none before them
     leads_rest : (row : List E) (i : ℕ) (d : E) → i < length row → Ascends cmp row
@@ -91,3 +99,29 @@ module _ {E : Type 0} (cmp : E → E → Ordering) (order : IsRanking cmp) where
       ∙ ap (λ l. first_of cmp k (sums ++ l)) (sym (append-nil (map (mul (get_or xs i d)) ys)))
       ∙ ap (first_of cmp k) (sym (products-append mul (take i xs) (get_or xs i d ∷ []) ys))
       ∙ ap (λ l. first_of cmp k (products mul l ys)) (sym (take_more xs i d within))
+
+  -- one item on one side
+
+  products-one : (mul : E → E → E) (xs : List E) (y : E) → products mul xs (y ∷ []) ≡ map (λ x. mul x y) xs
+  products-one mul [] y = refl
+  products-one mul (x ∷ xs) y = ap (λ l. mul x y ∷ l) (products-one mul xs y)
+
+  pub first_of-row : (mul : E → E → E) (k : ℕ) (xs ys : List E) (x : E) → length xs ≡ 1 → x ≡ get_or xs 0 x
+      → ((y z : E) → cmp (mul x y) (mul x z) ≡ cmp y z) → IsRankedWithin cmp k ys
+      → map (mul x) ys ≡ first_of cmp k (products mul xs ys)
+  first_of-row mul k [] ys x one at keeps ranked = absurd (omega arith)
+  first_of-row mul k (z ∷ []) ys x one at keeps ranked =
+      first_of-mapped (mul x) keeps k ys ranked
+      ∙ ap (λ w. first_of cmp k (map (mul w) ys)) at
+      ∙ ap (first_of cmp k) (sym (append-nil (map (mul z) ys)))
+  first_of-row mul k (z ∷ u ∷ xs) ys x one at keeps ranked = absurd (omega arith)
+
+  pub first_of-column : (mul : E → E → E) (k : ℕ) (xs ys : List E) (y : E) → length ys ≡ 1 → y ≡ get_or ys 0 y
+      → ((x z : E) → cmp (mul x y) (mul z y) ≡ cmp x z) → IsRankedWithin cmp k xs
+      → map (λ x. mul x y) xs ≡ first_of cmp k (products mul xs ys)
+  first_of-column mul k xs [] y one at keeps ranked = absurd (omega arith)
+  first_of-column mul k xs (z ∷ []) y one at keeps ranked =
+      first_of-mapped (λ x. mul x y) keeps k xs ranked
+      ∙ ap (λ w. first_of cmp k (map (λ x. mul x w) xs)) at
+      ∙ ap (first_of cmp k) (sym (products-one mul xs z))
+  first_of-column mul k xs (z ∷ u ∷ ys) y one at keeps ranked = absurd (omega arith)

@@ -3,6 +3,7 @@ ghost use Rattle.std.specs.Prelude.{◌≡◌, ◌≤◌, [], ◌∷◌, ◌++�
 ghost use Rattle.witness_order.specs.Ranked.{first_of, Ascends};
 
 use crate::firsts::Firsts;
+use crate::product::product_of;
 use crate::queue::Lent;
 use crate::ranked::Ranked;
 use crate::sum::sum_of;
@@ -95,6 +96,9 @@ where
         sum_of(alloc, &self.ranked, k, a.into_queue(), b.into_queue())
     }
 
+    /// Compares joined candidates where they stand, and joins only the ones that it keeps, at most k.
+    /// Where one list has one candidate, none is compared. Else it looks for the places of at most k * k of them,
+    /// and of at most k (2 + ln k) where no two are equal, each with 1 + log2 k comparisons at most.
     fn mul<L: Ledger>(
         &self,
         alloc: Global,
@@ -103,7 +107,7 @@ where
         steps: &mut Steps<L>,
     ) -> Result<Firsts<R::Item>, AllocError> {
         steps.tick();
-        Err(AllocError)
+        product_of(alloc, &self.ranked, self.k as usize, a.items(), b.items())
     }
 }
 

@@ -21,12 +21,71 @@ struct Pick {
     right: usize,
 }
 
-/// The first k of all products of two lists, of which the right one is in order.
-/// A row of products ends at the first that is not among the first k so far, and each is placed by halving.
-/// Where the left list is in order too and no two products are equal, at most k / i products of row i are kept,
-/// counted from 1, and one more is looked at: at most k (2 + ln k) in all, where k rows or fewer are given.
-/// Equal products may stand beside each other, so that where some are equal all may be placed.
+/// The first k of all products of two lists. One candidate on the one side keeps the other side in its order.
 pub(crate) fn product_of<R: Ranked>(
+    alloc: Global,
+    ranked: &R,
+    k: usize,
+    a: &[R::Item],
+    b: &[R::Item],
+) -> Result<Firsts<R::Item>, AllocError>
+    requires some { 1 ≤ k }
+    requires left_is_ranked { IsRankedWithin (R.order ranked.now) k a.now }
+    requires right_is_ranked { IsRankedWithin (R.order ranked.now) k b.now }
+    requires reaches_add_up { let reach = reach_of (R.reach ranked.now) in
+        reach a.now + reach b.now ≤ weight_bound }
+    ensures { IfOk result (λ firsts.
+        firsts ≡ first_of (R.order ranked.now) k (products (R.joint ranked.now) a.now b.now)) }
+{
+    if a.len() == 1 {
+        return row_of(alloc, ranked, &a[0], b);
+    }
+    if b.len() == 1 {
+        return column_of(alloc, ranked, a, &b[0]);
+    }
+    product_of_rows(alloc, ranked, k, a, b)
+}
+
+// The products of one candidate with all of b.
+fn row_of<R: Ranked>(
+    alloc: Global,
+    ranked: &R,
+    a: &R::Item,
+    b: &[R::Item],
+) -> Result<Firsts<R::Item>, AllocError>
+    requires { R.reach ranked.now a.now + reach_of (R.reach ranked.now) b.now ≤ weight_bound }
+    ensures { IfOk result (λ firsts. firsts ≡ map (R.joint ranked.now a.now) b.now) }
+{
+    let mut items = Vec::with_capacity(alloc, b.len())?;
+    'joining: for right in b {
+        items.push(ranked.joint(alloc, a, right)?)?;
+    }
+    Ok(Firsts::of(items))
+}
+
+// The products of all of a with one candidate.
+fn column_of<R: Ranked>(
+    alloc: Global,
+    ranked: &R,
+    a: &[R::Item],
+    b: &R::Item,
+) -> Result<Firsts<R::Item>, AllocError>
+    requires { reach_of (R.reach ranked.now) a.now + R.reach ranked.now b.now ≤ weight_bound }
+    ensures { IfOk result (λ firsts. firsts ≡ map (λ left. R.joint ranked.now left b.now) a.now) }
+{
+    let mut items = Vec::with_capacity(alloc, a.len())?;
+    'joining: for left in a {
+        items.push(ranked.joint(alloc, left, b)?)?;
+    }
+    Ok(Firsts::of(items))
+}
+
+// The first k of all products of two lists, of which the right one is in order.
+// A row of products ends at the first that is not among the first k so far, and each is placed by halving.
+// Where the left list is in order too and no two products are equal, at most k / i products of row i are kept,
+// counted from 1, and one more is looked at: at most k (2 + ln k) in all, where k rows or fewer are given.
+// Equal products may stand beside each other, so that where some are equal all may be placed.
+fn product_of_rows<R: Ranked>(
     alloc: Global,
     ranked: &R,
     k: usize,

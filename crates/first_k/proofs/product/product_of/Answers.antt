@@ -1,30 +1,24 @@
--- One more row.
-use Rattle.std.proofs.Common.{map, take, sym, subst}
-use Rattle.witness_order.specs.Ranked.{IsRankedWithin}
-use Rattle.witness_order.proofs.Firsts.{first_of-IsRankedWithin}
-use Rattle.first_k.specs.FirstK.{products}
-use Rattle.first_k.specs.Picks.{product_at}
-use Rattle.first_k.proofs.Rows.{rows_more}
+-- One candidate on the one side keeps the other side in its order.
+use Rattle.std.proofs.Common.{◌≡◌, map, IfOk, subst}
+use Rattle.first_k.proofs.Rows.{first_of-row, first_of-column}
 use Rattle.first_k.proofs.product.product_of.Goals as goal
 
-pub add_row-requires-clause-picks_in_order : goal.add_row-requires-clause-picks_in_order
-add_row-requires-clause-picks_in_order g c =
+pub returns-then-a-eq1 : goal.returns-then-a-eq1
+returns-then-a-eq1 g c =
     let m = g.R.Ranked in
     let ranked = c.args.ranked.now in
-    subst (IsRankedWithin (m.order ranked) c.args.k) (sym c.rows.invariant.so_far)
-    (first_of-IsRankedWithin (m.order ranked) (g.met.R.Ranked.ranking ranked) c.args.k
-    (products (m.joint ranked) (take c.rows.left c.args.a.now) c.args.b.now))
+    subst (λ v. IfOk c.row_of.result (λ firsts. firsts ≡ v))
+    (first_of-row (m.order ranked) (g.met.R.Ranked.ranking ranked) (m.joint ranked) c.args.k
+    c.args.a.now c.args.b.now c.index-a-0.result c.if-a-eq1.true c.index-a-0.is
+    ((g.met.R.Ranked.keeps ranked).keeps_left c.index-a-0.result) c.requires.right_is_ranked)
+    c.row_of.ensures
 
-pub rows-preserved : goal.rows-preserved
-rows-preserved g c =
+pub returns-then-b-eq1 : goal.returns-then-b-eq1
+returns-then-b-eq1 g c =
     let m = g.R.Ranked in
     let ranked = c.args.ranked.now in
-    let at = product_at (m.joint ranked) (m.unit ranked) c.args.a.now c.args.b.now in
-    record {
-      within = c.in_ok-add_row.ensures.picks_are_within;
-      so_far =
-          rows_more (m.order ranked) (g.met.R.Ranked.ranking ranked) (m.joint ranked) c.args.k
-          (map at c.rows.picks.items) (map at c.add_row.new.picks.items)
-          c.args.a.now c.args.b.now c.rows.left (m.unit ranked) c.rows-test.true
-          c.rows.invariant.so_far c.in_ok-add_row.ensures.value;
-    }
+    subst (λ v. IfOk c.column_of.result (λ firsts. firsts ≡ v))
+    (first_of-column (m.order ranked) (g.met.R.Ranked.ranking ranked) (m.joint ranked) c.args.k
+    c.args.a.now c.args.b.now c.index-b-0.result c.if-b-eq1.true c.index-b-0.is
+    (λ x z. (g.met.R.Ranked.keeps ranked).keeps_right x z c.index-b-0.result) c.requires.left_is_ranked)
+    c.column_of.ensures

@@ -3,7 +3,7 @@ use Rattle.std.specs.List.{All}
 use Rattle.witness_order.specs.Ranked.{first_of}
 use Rattle.first_k.specs.FirstK.{products}
 use Rattle.first_k.specs.Picks.{product_at, IsPickOf}
-use Rattle.first_k.proofs.product.product_of.Given as goal
+use Rattle.first_k.proofs.product.product_of_rows.Given as goal
 
 -- the picks are the first k of the products of all rows so far
 abbrev pub invariant-rows : goal.invariant-rows
