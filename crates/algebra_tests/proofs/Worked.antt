@@ -3,7 +3,7 @@ use Rattle.std.proofs.Common.{◌≡◌, ℕ, ◌+◌, ◌*◌, ◌≤◌, max, 
 use Rattle.shape_gen.specs.declared.mark.Mark.{Mark}
 use Rattle.semiring_kit.specs.Semiring.{IsGood}
 use Rattle.best_k.specs.declared.entry.Entry.{Entry}
-use Rattle.best_k.specs.FirstK.{reach_of}
+use Rattle.first_k.specs.FirstK.{reach_of}
 use Rattle.best_k.specs.Best.{entry_reach, best_of, marked}
 use Rattle.best_k.specs.BestLaws.{best_of-IsSemiring, marked-is_sound, marked-reach}
 

@@ -7,8 +7,8 @@ use Rattle.witness_order.specs.Before.{before}
 use Rattle.witness_order.specs.Ranked.{first_of}
 use Rattle.witness_order.proofs.Placed.{first_of-map}
 use Rattle.witness_order.proofs.Firsts.{first_of-append}
-use Rattle.best_k.specs.FirstK.{products}
-use Rattle.best_k.specs.FirstKLaws.{first_of-nil, first_of-products}
+use Rattle.first_k.specs.FirstK.{products}
+use Rattle.first_k.specs.FirstKLaws.{first_of-nil, first_of-products}
 use Rattle.best_k.specs.Best.{entry_of, entry_order, joint, best_of, marked}
 use Rattle.best_k.specs.BestLaws.{entry_order-IsRanking, entry_order-KeepsRanking}
 use Rattle.best_k.specs.Aggregate.{weighed, SumIsBest}

@@ -7,10 +7,9 @@ use Rattle.witness_order.specs.Rankings.{IsRanking, KeepsRanking}
 use Rattle.witness_order.specs.Before.{no_marks}
 use Rattle.witness_order.specs.Ranked.{IsRankedWithin}
 use Rattle.witness_order.proofs.Orders.{before-IsRanking, before-KeepsRanking}
-use Rattle.witness_order.proofs.Firsts.{first_of-IsRankedWithin}
 use Rattle.semiring_kit.specs.Semiring.{IsSemiring}
-use Rattle.best_k.specs.FirstK.{reach_of}
-use Rattle.best_k.specs.FirstKLaws.{AddsReach, reach-first_of, first_k-IsSemiring}
+use Rattle.first_k.specs.FirstK.{reach_of, AddsReach}
+use Rattle.first_k.specs.FirstKLaws.{first_k-IsSemiring, one_of-is_sound, one_of-reach}
 use Rattle.best_k.specs.Best.{pair_of, entry_of, entry_order, joint, entry_reach, best_of, marked}
 
 pub entry_order-IsRanking : (greatest : Bool) → IsRanking (entry_order greatest)
@@ -35,8 +34,11 @@ entry_order-KeepsRanking greatest =
 joint-reach : (s t : ℤ) → unsigned_abs (s +ℤ t) ≤ unsigned_abs s + unsigned_abs t
 joint-reach s t = omega (arith, ints)
 
-entry_reach-AddsReach : AddsReach entry_reach (entry_of no_marks) joint
+pub entry_reach-AddsReach : AddsReach entry_reach (entry_of no_marks) joint
 entry_reach-AddsReach = record { unit_reach = refl; product_reach = λ a b. joint-reach a.total b.total }
+
+pub entry_reach-of_mark : (mark : Mark) (weight : ℤ) → entry_reach (entry_of (weight, mark ∷ [])) ≤ unsigned_abs weight
+entry_reach-of_mark mark weight = omega arith
 
 pub best_of-IsSemiring : (greatest : Bool) (k : ℕ) → IsSemiring (best_of greatest k)
 best_of-IsSemiring greatest k =
@@ -46,10 +48,10 @@ best_of-IsSemiring greatest k =
 pub marked-is_sound : (greatest : Bool) (k : ℕ) (mark : Mark) (weight : ℤ)
     → IsRankedWithin (entry_order greatest) k (marked greatest k mark weight)
 marked-is_sound greatest k mark weight =
-    first_of-IsRankedWithin (entry_order greatest) (entry_order-IsRanking greatest) k (entry_of (weight, mark ∷ []) ∷ [])
+    one_of-is_sound (entry_order greatest) (entry_order-IsRanking greatest) k (entry_of (weight, mark ∷ []))
 
 pub marked-reach : (greatest : Bool) (k : ℕ) (mark : Mark) (weight : ℤ)
     → reach_of entry_reach (marked greatest k mark weight) ≤ unsigned_abs weight
 marked-reach greatest k mark weight =
-    let within = reach-first_of (entry_order greatest) entry_reach k (entry_of (weight, mark ∷ []) ∷ []) in
-    omega (arith, within)
+    one_of-reach (entry_order greatest) entry_reach k (entry_of (weight, mark ∷ [])) (unsigned_abs weight)
+    (entry_reach-of_mark mark weight)

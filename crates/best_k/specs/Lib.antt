@@ -1,7 +1,3 @@
-pub mod FirstK
-pub mod FirstKLaws
 pub mod Best
 pub mod BestLaws
 pub mod Aggregate
-pub mod Merged
-pub mod Picks
