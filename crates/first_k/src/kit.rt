@@ -23,6 +23,8 @@ pub struct FirstK<R: Ranked> {
     ghost at_most_64: { k ≤ 64 },
 }
 
+// The bound Send + Sync stands here and not on Ranked: a method of an impl can't call a function
+// whose bound has an associated type that is `Send`.
 impl<R: Ranked> Semiring for FirstK<R>
 where
     R::Item: Send + Sync,
@@ -34,18 +36,22 @@ where
 
     type Elem = Firsts<R::Item>;
 
-    ghost ring = { λ kit. first_k (R.order kit.ranked) kit.k (R.unit kit.ranked) (R.joint kit.ranked) (R.reach kit.ranked) };
+    ghost ring = { λ kit. let by = kit.ranked in
+        first_k (R.order by) kit.k (R.unit by) (R.joint by) (R.reach by) };
 
-    ghost of_mark = { λ kit mark weight. first_of (R.order kit.ranked) kit.k (R.of_mark kit.ranked mark weight ∷ []) };
+    ghost of_mark = { λ kit mark weight. let by = kit.ranked in
+        first_of (R.order by) kit.k (R.of_mark by mark weight ∷ []) };
 
-    ghost laws = { λ kit. first_k-IsSemiring (R.order kit.ranked) (R.ranking kit.ranked) (R.unit kit.ranked) (R.joint kit.ranked)
-        (R.keeps kit.ranked) (R.reach kit.ranked) (R.adds_reach kit.ranked) kit.k };
+    ghost laws = { λ kit. let by = kit.ranked in
+        first_k-IsSemiring (R.order by) (R.ranking by) (R.unit by) (R.joint by) (R.keeps by)
+        (R.reach by) (R.adds_reach by) kit.k };
 
-    ghost mark_is_sound = { λ kit mark weight. one_of-is_sound (R.order kit.ranked) (R.ranking kit.ranked) kit.k
-        (R.of_mark kit.ranked mark weight) };
+    ghost mark_is_sound = { λ kit mark weight. let by = kit.ranked in
+        one_of-is_sound (R.order by) (R.ranking by) kit.k (R.of_mark by mark weight) };
 
-    ghost mark_reach = { λ kit mark weight. one_of-reach (R.order kit.ranked) (R.reach kit.ranked) kit.k
-        (R.of_mark kit.ranked mark weight) (unsigned_abs weight) (R.mark_reach kit.ranked mark weight) };
+    ghost mark_reach = { λ kit mark weight. let by = kit.ranked in
+        one_of-reach (R.order by) (R.reach by) kit.k (R.of_mark by mark weight) (unsigned_abs weight)
+        (R.mark_reach by mark weight) };
 
     fn zero(&self, alloc: Global) -> Result<Firsts<R::Item>, AllocError> {
         Ok(Firsts::of(Vec::new(alloc)))

@@ -55,12 +55,7 @@ pub trait Ranked: Drop {
         ensures { result ≡ order self.now (joint self.now a.now b.now) (joint self.now c.now d.now) };
 
     /// Both joined, in this order.
-    fn joint(
-        &self,
-        alloc: Global,
-        a: &Self::Item,
-        b: &Self::Item,
-    ) -> Result<Self::Item, AllocError>
+    fn joint(&self, alloc: Global, a: &Self::Item, b: &Self::Item) -> Result<Self::Item, AllocError>
         requires { reach self.now a.now + reach self.now b.now ≤ weight_bound }
         ensures { IfOk result (λ item. item ≡ joint self.now a.now b.now) };
 

@@ -1,5 +1,5 @@
 -- One candidate on the one side keeps the other side in its order.
-use Rattle.std.proofs.Common.{◌≡◌, map, IfOk, subst}
+use Rattle.std.proofs.Common.{◌≡◌, IfOk, subst}
 use Rattle.first_k.proofs.Rows.{first_of-row, first_of-column}
 use Rattle.first_k.proofs.product.product_of.Goals as goal
 
