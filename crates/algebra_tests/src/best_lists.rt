@@ -1,8 +1,7 @@
-//! Worked sums and products, through the trait.
+//! Worked sums and products, through the trait. The functions that make them serve lists of any entries.
 
 ghost use Rattle.std.specs.Prelude.{◌≡◌, ◌<◌, IfOk};
 ghost use Rattle.semiring_kit.specs.Semiring.{IsGood};
-ghost use Rattle.best_k.specs.Best.{best_of};
 
 use best_k::{Best, BestK};
 use semiring_kit::Semiring;
@@ -18,13 +17,13 @@ use step_count::Steps;
 const MOST: usize = 8;
 
 // The product of marks, which have these rows and weights.
-fn candidate<L: Ledger>(
-    kit: &BestK,
+fn candidate<S: Semiring, L: Ledger>(
+    kit: &S,
     alloc: Global,
     marks: &[(u32, i32)],
     steps: &mut Steps<L>,
-) -> Result<Best, AllocError>
-    ensures { IfOk result (IsGood (best_of kit.now.greatest kit.now.k)) }
+) -> Result<S::Elem, AllocError>
+    ensures { IfOk result (IsGood (S.ring kit.now)) }
 {
     let mut product = kit.one(alloc)?;
     if marks.len() > MOST {
@@ -42,12 +41,12 @@ fn candidate<L: Ledger>(
 }
 
 // The sum of the candidates.
-fn sum_of_candidates<L: Ledger>(
-    kit: &BestK,
+pub(crate) fn sum_of_candidates<S: Semiring, L: Ledger>(
+    kit: &S,
     alloc: Global,
     candidates: &[&[(u32, i32)]],
     blank: Blank,
-) -> Result<Best, AllocError>
+) -> Result<S::Elem, AllocError>
     requires same_name { blank.name ≡ L.name }
     requires same_parts { blank.parts ≡ L.parts }
     requires some_part { 0 < blank.parts }
@@ -62,12 +61,12 @@ fn sum_of_candidates<L: Ledger>(
 }
 
 // The product over rows, of which each is left or taken, at these weights.
-fn sublists<L: Ledger>(
-    kit: &BestK,
+pub(crate) fn sublists<S: Semiring, L: Ledger>(
+    kit: &S,
     alloc: Global,
     weights: &[i32],
     blank: Blank,
-) -> Result<Best, AllocError>
+) -> Result<S::Elem, AllocError>
     requires same_name { blank.name ≡ L.name }
     requires same_parts { blank.parts ≡ L.parts }
     requires some_part { 0 < blank.parts }
@@ -89,7 +88,7 @@ fn sublists<L: Ledger>(
 }
 
 // The totals and the rows of the entries are these.
-fn is_answer(
+pub(crate) fn is_answer(
     rt: &impl Abort,
     alloc: Global,
     best: &Best,
@@ -112,14 +111,14 @@ fn the_first_of_some_candidates(rt: HostRuntime) -> Result<(), Fail> {
         k: 3,
         greatest: true,
     };
-    let zeros = sum_of_candidates::<Brand>(
+    let zeros = sum_of_candidates::<BestK, Brand>(
         &three,
         alloc,
         &[&[(1, 0)], &[(0, 0), (1, 0)], &[(2, 0)], &[], &[(0, 0)]],
         Blank::new(1),
     )?;
     is_answer(&rt, alloc, &zeros, &[(0, &[]), (0, &[0]), (0, &[1])])?;
-    let within = sum_of_candidates::<Brand>(
+    let within = sum_of_candidates::<BestK, Brand>(
         &three,
         alloc,
         &[&[], &[(0, 1)], &[(1, 2)], &[(0, 1), (1, 2)], &[(2, 3)]],
@@ -130,7 +129,7 @@ fn the_first_of_some_candidates(rt: HostRuntime) -> Result<(), Fail> {
         k: 2,
         greatest: false,
     };
-    let lightest = sum_of_candidates::<Brand>(
+    let lightest = sum_of_candidates::<BestK, Brand>(
         &least,
         alloc,
         &[&[(0, 5)], &[(1, -2)], &[(2, 4)]],
@@ -161,7 +160,7 @@ fn the_first_of_all_sublists(rt: HostRuntime) -> Result<(), Fail> {
     for (k, greatest, weights, expected) in cases {
         assert!(rt; 1 <= k && k <= 64);
         let kit = BestK { k, greatest };
-        let best = sublists::<Brand>(&kit, alloc, weights, Blank::new(1))?;
+        let best = sublists::<BestK, Brand>(&kit, alloc, weights, Blank::new(1))?;
         is_answer(&rt, alloc, &best, expected)?;
     }
     Ok(())

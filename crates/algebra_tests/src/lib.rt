@@ -18,6 +18,8 @@ mod plans;
 #[cfg(test)]
 mod products;
 #[cfg(test)]
+mod runs;
+#[cfg(test)]
 mod semirings;
 #[cfg(test)]
 mod shapes;

@@ -1,5 +1,1 @@
 pub mod Sums
-pub mod Merges
-pub mod Places
-pub mod Rows
-pub mod Picks

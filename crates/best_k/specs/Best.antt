@@ -6,7 +6,7 @@ use Rattle.witness_order.specs.Before.{before, no_marks, together}
 use Rattle.witness_order.specs.Ranked.{first_of}
 use Rattle.semiring_kit.specs.Semiring.{SemiringOn}
 use Rattle.best_k.specs.declared.entry.Entry.{Entry}
-use Rattle.best_k.specs.FirstK.{first_k}
+use Rattle.first_k.specs.FirstK.{first_k}
 
 -- the total and the marks of an entry, and the entry of these
 

@@ -1,7 +1,6 @@
-pub mod FirstK
-pub mod FirstKLaws
 pub mod Best
+pub mod SeenLaws
 pub mod BestLaws
 pub mod Aggregate
-pub mod Merged
-pub mod Picks
+pub mod RunEntries
+pub mod RunEntryLaws

@@ -1,15 +1,14 @@
 //! A list of entries.
-ghost use Rattle.std.specs.Prelude.{◌≡◌, IfOk};
+ghost use Rattle.std.specs.Prelude.{◌≡◌};
 
-use crate::entry::{Entry, copied};
-use std::alloc::{AllocError, Global};
-use std::collections::VecDeque;
+use crate::entry::Entry;
+use first_k::Firsts;
 use std::marker::Model;
 
 /// The best entries, the best one first, seen as their list.
 #[derive(Debug, Drop)]
 pub struct Best {
-    entries: Vec<Entry>,
+    pub(crate) firsts: Firsts<Entry>,
 }
 
 impl Model for Best {
@@ -18,7 +17,7 @@ impl Model for Best {
 
     ghost Value = { List Entry };
 
-    ghost view = { λ best. best.entries.items };
+    ghost view = { λ best. best.firsts };
 }
 
 impl Best {
@@ -26,31 +25,15 @@ impl Best {
     pub fn entries(&self) -> &[Entry]
         ensures { result.now ≡ self.now }
     {
-        self.entries.as_slice()
+        self.firsts.items()
     }
 
     /// The list of these entries, in this order. Takes no memory.
     pub fn of(entries: Vec<Entry>) -> Best
         ensures { result ≡ entries.items }
     {
-        Best { entries }
+        Best {
+            firsts: Firsts::of(entries),
+        }
     }
-
-    /// The entries, to be moved out one by one. Takes no memory.
-    pub(crate) fn into_queue(self) -> VecDeque<Entry>
-        ensures { result.items ≡ self }
-    {
-        VecDeque::from(self.entries)
-    }
-}
-
-/// The list of the same entries once more.
-pub(crate) fn copied_all(alloc: Global, entries: &[Entry]) -> Result<Best, AllocError>
-    ensures { IfOk result (λ best. best ≡ entries.now) }
-{
-    let mut copies = Vec::with_capacity(alloc, entries.len())?;
-    'copying: for entry in entries {
-        copies.push(copied(alloc, entry)?)?;
-    }
-    Ok(Best::of(copies))
 }

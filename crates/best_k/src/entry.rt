@@ -1,11 +1,10 @@
-//! One entry of an answer. Their order is in specs/Best.antt.
-ghost use Rattle.std.specs.Prelude.{◌≡◌, ◌+◌, ◌≤◌, Bool, ℤ, ◌+ℤ◌, IfOk};
-ghost use Rattle.std.specs.Ordering.{is_gt};
-ghost use Rattle.semiring_kit.specs.Semiring.{weight_bound};
+//! One entry of an answer, and the order of entries. The order is in specs/Best.antt.
+ghost use Rattle.std.specs.Prelude.{◌≡◌, Bool, ℤ, IfOk};
 ghost use Rattle.witness_order.specs.Before.{better};
-ghost use Rattle.best_k.specs.Best.{entry_order, joint, entry_reach};
 
 use crate::total::Total;
+use first_k::Ranked;
+use shape_gen::Mark;
 use std::alloc::{AllocError, Global};
 use std::cmp::Ordering;
 use witness_order::{Witness, joined, shortlex, shortlex_joined};
@@ -17,65 +16,82 @@ pub struct Entry {
     pub witness: Witness,
 }
 
-/// The same entry once more.
-pub(crate) fn copied(alloc: Global, entry: &Entry) -> Result<Entry, AllocError>
-    ensures { IfOk result (λ copy. copy ≡ entry.now) }
-{
-    let witness = Witness::of(alloc, entry.witness.marks())?;
-    Ok(Entry {
-        total: entry.total,
-        witness,
-    })
+/// Entries in the order of an answer: the better total first, which is the greater one or the lesser, and among
+/// equal totals by shortlex.
+#[derive(Clone, Copy, Debug)]
+pub struct ByTotal {
+    pub greatest: bool,
 }
 
-/// The entry of both candidates joined.
-pub(crate) fn joint(alloc: Global, a: &Entry, b: &Entry) -> Result<Entry, AllocError>
-    requires { entry_reach a.now + entry_reach b.now ≤ weight_bound }
-    ensures { IfOk result (λ entry. entry ≡ joint a.now b.now) }
-{
-    let total = joint_total(a, b);
-    let witness = joined(alloc, &a.witness, &b.witness)?;
-    Ok(Entry { total, witness })
+impl Ranked for ByTotal {
+    ghost use Rattle.std.specs.Prelude.{[], ◌∷◌};
+    ghost use Rattle.witness_order.specs.Before.{no_marks};
+    ghost use Rattle.best_k.specs.Best.{entry_of, entry_order, joint, entry_reach};
+    ghost use Rattle.best_k.specs.BestLaws.{entry_order-IsRanking, entry_order-KeepsRanking};
+    ghost use Rattle.best_k.specs.BestLaws.{entry_reach-AddsReach, entry_reach-of_mark};
+
+    type Item = Entry;
+
+    ghost order = { λ by. entry_order by.greatest };
+
+    ghost unit = { λ by. entry_of no_marks };
+
+    ghost joint = { λ by. joint };
+
+    ghost reach = { λ by. entry_reach };
+
+    ghost of_mark = { λ by mark weight. entry_of (weight, mark ∷ []) };
+
+    ghost ranking = { λ by. entry_order-IsRanking by.greatest };
+
+    ghost keeps = { λ by. entry_order-KeepsRanking by.greatest };
+
+    ghost adds_reach = { λ by. entry_reach-AddsReach };
+
+    ghost mark_reach = { λ by mark weight. entry_reach-of_mark mark weight };
+
+    fn unit(&self, alloc: Global) -> Result<Entry, AllocError> {
+        let witness = Witness::of(alloc, &[])?;
+        Ok(Entry { total: 0, witness })
+    }
+
+    fn of_mark(&self, alloc: Global, mark: Mark, weight: i64) -> Result<Entry, AllocError> {
+        let witness = Witness::of(alloc, &[mark])?;
+        let total = weight;
+        Ok(Entry { total, witness })
+    }
+
+    fn copy(&self, alloc: Global, a: &Entry) -> Result<Entry, AllocError> {
+        let witness = Witness::of(alloc, a.witness.marks())?;
+        let total = a.total;
+        Ok(Entry { total, witness })
+    }
+
+    fn compare(&self, a: &Entry, b: &Entry) -> Ordering {
+        match compare_totals(self.greatest, a.total, b.total) {
+            Ordering::Equal => shortlex(&a.witness, &b.witness),
+            unequal => unequal,
+        }
+    }
+
+    fn compare_joint(&self, a: &Entry, b: &Entry, c: &Entry, d: &Entry) -> Ordering {
+        let (left, right) = (a.total.plus(b.total), c.total.plus(d.total));
+        match compare_totals(self.greatest, left, right) {
+            Ordering::Equal => shortlex_joined(&a.witness, &b.witness, &c.witness, &d.witness),
+            unequal => unequal,
+        }
+    }
+
+    fn joint(&self, alloc: Global, a: &Entry, b: &Entry) -> Result<Entry, AllocError> {
+        let total = a.total.plus(b.total);
+        let witness = joined(alloc, &a.witness, &b.witness)?;
+        Ok(Entry { total, witness })
+    }
 }
 
-// The total of both candidates joined.
-fn joint_total(a: &Entry, b: &Entry) -> i64
-    requires { entry_reach a.now + entry_reach b.now ≤ weight_bound }
-    ensures { result ≡ a.now.total +ℤ b.now.total }
-{
-    a.total.plus(b.total)
-}
-
-// The better total first.
-fn compare_totals(greatest: bool, a: i64, b: i64) -> Ordering
+/// The better total first.
+pub(crate) fn compare_totals(greatest: bool, a: i64, b: i64) -> Ordering
     ensures { result ≡ better greatest a b }
 {
     if greatest { b.compare(a) } else { a.compare(b) }
-}
-
-/// Whether a comes after b.
-pub(crate) fn comes_after(greatest: bool, a: &Entry, b: &Entry) -> bool
-    ensures { result ≡ is_gt (entry_order greatest a.now b.now) }
-{
-    match compare_totals(greatest, a.total, b.total) {
-        Ordering::Less => false,
-        Ordering::Equal => shortlex(&a.witness, &b.witness) == Ordering::Greater,
-        Ordering::Greater => true,
-    }
-}
-
-/// Whether a and b joined come after c and d joined. Neither is made.
-pub(crate) fn joint_comes_after(greatest: bool, a: &Entry, b: &Entry, c: &Entry, d: &Entry) -> bool
-    requires left_reach { entry_reach a.now + entry_reach b.now ≤ weight_bound }
-    requires right_reach { entry_reach c.now + entry_reach d.now ≤ weight_bound }
-    ensures { result ≡ is_gt (entry_order greatest (joint a.now b.now) (joint c.now d.now)) }
-{
-    match compare_totals(greatest, joint_total(a, b), joint_total(c, d)) {
-        Ordering::Less => false,
-        Ordering::Equal => {
-            let order = shortlex_joined(&a.witness, &b.witness, &c.witness, &d.witness);
-            order == Ordering::Greater
-        }
-        Ordering::Greater => true,
-    }
 }

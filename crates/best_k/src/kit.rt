@@ -1,25 +1,37 @@
 //! The semiring of the best k entries. The operations are in specs/Best.antt.
-ghost use Rattle.std.specs.Prelude.{◌≡◌, ◌≤◌, [], ◌∷◌, IfOk};
+ghost use Rattle.std.specs.Prelude.{◌≡◌, ◌≤◌};
 
-use crate::best::{Best, copied_all};
-use crate::entry::Entry;
-use crate::product::product_of;
-use crate::sum::sum_of;
+use crate::best::Best;
+use crate::entry::ByTotal;
+use first_k::FirstK;
 use semiring_kit::Semiring;
 use shape_gen::Mark;
 use std::alloc::{AllocError, Global};
 use std::sync::ledger::Ledger;
 use step_count::Steps;
-use witness_order::Witness;
 
 /// The k best candidates, or all where they are fewer: those of the greatest totals, or of the least.
-/// Each method makes its whole result before it answers, and refuses only for want of memory.
+/// Each method is the one of the first k in the order of entries.
 #[derive(Clone, Copy, Debug)]
 pub struct BestK {
     pub k: u32,
     pub greatest: bool,
     ghost at_least_one: { 1 ≤ k },
     ghost at_most_64: { k ≤ 64 },
+}
+
+impl BestK {
+    // The first k in the order of entries.
+    fn first_k(self) -> FirstK<ByTotal>
+        ensures k { result.k ≡ self.k }
+        ensures greatest { result.ranked.greatest ≡ self.greatest }
+    {
+        let greatest = self.greatest;
+        FirstK {
+            ranked: ByTotal { greatest },
+            k: self.k,
+        }
+    }
 }
 
 impl Semiring for BestK {
@@ -39,39 +51,35 @@ impl Semiring for BestK {
     ghost mark_reach = { λ kit. marked-reach kit.greatest kit.k };
 
     fn zero(&self, alloc: Global) -> Result<Best, AllocError> {
-        Ok(Best::of(Vec::new(alloc)))
+        let firsts = self.first_k().zero(alloc)?;
+        Ok(Best { firsts })
     }
 
     fn one(&self, alloc: Global) -> Result<Best, AllocError> {
-        let witness = Witness::of(alloc, &[])?;
-        single(alloc, Entry { total: 0, witness })
+        let firsts = self.first_k().one(alloc)?;
+        Ok(Best { firsts })
     }
 
     fn of_mark(&self, alloc: Global, mark: Mark, weight: i64) -> Result<Best, AllocError> {
-        let witness = Witness::of(alloc, &[mark])?;
-        let total = weight;
-        single(alloc, Entry { total, witness })
+        let firsts = self.first_k().of_mark(alloc, mark, weight)?;
+        Ok(Best { firsts })
     }
 
     fn copy(&self, alloc: Global, a: &Best) -> Result<Best, AllocError> {
-        copied_all(alloc, a.entries())
+        let firsts = self.first_k().copy(alloc, &a.firsts)?;
+        Ok(Best { firsts })
     }
 
-    /// Compares at most k times, and copies at most k entries.
     fn add(&self, alloc: Global, a: &Best, b: &Best) -> Result<Best, AllocError> {
-        let k = self.k as usize;
-        sum_of(alloc, self.greatest, k, a.entries(), b.entries())
+        let firsts = self.first_k().add(alloc, &a.firsts, &b.firsts)?;
+        Ok(Best { firsts })
     }
 
-    /// Compares at most k times, and moves at most k entries. No entry is copied.
     fn sum(&self, alloc: Global, a: Best, b: Best) -> Result<Best, AllocError> {
-        let k = self.k as usize;
-        sum_of(alloc, self.greatest, k, a.into_queue(), b.into_queue())
+        let firsts = self.first_k().sum(alloc, a.firsts, b.firsts)?;
+        Ok(Best { firsts })
     }
 
-    /// Compares joined candidates where they stand, and joins only the ones that it keeps, at most k.
-    /// It looks for the places of at most k * k of them, and of at most k (2 + ln k) where no two are equal,
-    /// each with 1 + log2 k comparisons at most.
     fn mul<L: Ledger>(
         &self,
         alloc: Global,
@@ -79,17 +87,7 @@ impl Semiring for BestK {
         b: &Best,
         steps: &mut Steps<L>,
     ) -> Result<Best, AllocError> {
-        steps.tick();
-        let k = self.k as usize;
-        product_of(alloc, self.greatest, k, a.entries(), b.entries())
+        let firsts = self.first_k().mul(alloc, &a.firsts, &b.firsts, steps)?;
+        Ok(Best { firsts })
     }
-}
-
-// The list of one entry.
-fn single(alloc: Global, entry: Entry) -> Result<Best, AllocError>
-    ensures { IfOk result (λ best. best ≡ entry ∷ []) }
-{
-    let mut entries = Vec::with_capacity(alloc, 1)?;
-    entries.push(entry)?;
-    Ok(Best::of(entries))
 }

@@ -2,4 +2,4 @@ use Rattle.algebra_tests.proofs.Worked.{IsSmall}
 use Rattle.algebra_tests.proofs.best_lists.sublists.Given as goal
 
 abbrev pub invariant-rows : goal.invariant-rows
-invariant-rows g l = IsSmall l.kit.greatest l.kit.k l.weight-index l.product
+invariant-rows g l = IsSmall (g.S.Semiring.ring l.kit) l.weight-index l.product

@@ -1,0 +1,5 @@
+use Rattle.best_k.proofs.Sums.{run_sum_is_best}
+use Rattle.best_k.proofs.aggregate.run_sums_are_aggregates.Goals as goal
+
+pub returns : goal.returns
+returns c = run_sum_is_best

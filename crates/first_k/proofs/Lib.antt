@@ -1,0 +1,4 @@
+pub mod Merges
+pub mod Places
+pub mod Rows
+pub mod Picks

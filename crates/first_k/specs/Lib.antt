@@ -1,0 +1,4 @@
+pub mod FirstK
+pub mod FirstKLaws
+pub mod Merged
+pub mod Picks

@@ -1,0 +1,60 @@
+//! Sums of candidates in order. How they take their candidates is in specs/Merged.antt.
+ghost use Rattle.std.specs.Prelude.{◌≡◌, ◌++◌, IfOk};
+ghost use Rattle.std.specs.Option.{option_copied};
+ghost use Rattle.witness_order.specs.Ranked.{first_of, Ascends};
+ghost use Rattle.first_k.specs.Merged.{next_of};
+
+use crate::firsts::Firsts;
+use crate::queue::Queue;
+use crate::ranked::Ranked;
+use std::alloc::{AllocError, Global};
+use std::cmp::Ordering;
+
+// Which queue the next candidate of a sum comes from.
+enum Source {
+    Left,
+    Right,
+    End,
+}
+
+/// The first k of two queues that are in order. Each candidate that it keeps is taken after one comparison.
+pub(crate) fn sum_of<R: Ranked, Q: Queue<Item = R::Item>>(
+    alloc: Global,
+    ranked: &R,
+    k: usize,
+    mut a: Q,
+    mut b: Q,
+) -> Result<Firsts<R::Item>, AllocError>
+    requires left_in_order { Ascends (R.order ranked.now) (Q.items a) }
+    requires right_in_order { Ascends (R.order ranked.now) (Q.items b) }
+    ensures { IfOk result (λ sum.
+        sum ≡ first_of (R.order ranked.now) k (Q.items a ++ Q.items b)) }
+{
+    let mut sum = Vec::with_capacity(alloc, k.min(a.count().saturating_add(b.count())))?;
+    'merging: while sum.len() < k {
+        match next_source(ranked, a.peek(), b.peek()) {
+            Source::Left => sum.push(a.take(alloc)?)?,
+            Source::Right => sum.push(b.take(alloc)?)?,
+            Source::End => break,
+        }
+    }
+    Ok(Firsts::of(sum))
+}
+
+// The queue whose first candidate is next.
+fn next_source<R: Ranked>(ranked: &R, a: Option<&R::Item>, b: Option<&R::Item>) -> Source
+    ensures { result ≡ next_of (R.order ranked.now) (option_copied a.entry) (option_copied b.entry) }
+{
+    match (a, b) {
+        (None, None) => Source::End,
+        (Some(_), None) => Source::Left,
+        (None, Some(_)) => Source::Right,
+        (Some(x), Some(y)) => {
+            if ranked.compare(x, y) == Ordering::Greater {
+                Source::Right
+            } else {
+                Source::Left
+            }
+        }
+    }
+}
