@@ -1,0 +1,3 @@
+pub mod MaxLanes
+pub mod TruthLanes
+pub mod Zips

@@ -1,0 +1,12 @@
+//! Maps that keep a row with a lane for each key.
+//! What a kit must offer for that is in lanes.rt; max_lanes.rt, truth_lanes.rt and count_lanes.rt have
+//! it for the kits of numbers.
+#![tactic(auto)]
+
+mod lanes;
+mod max_lanes;
+mod truth_lanes;
+
+pub use lanes::Lanes;
+pub use max_lanes::{ABSENT, greatest, lift_max};
+pub use truth_lanes::{any, lift_or};
