@@ -1,6 +1,7 @@
 -- Lemmas on lists that are joined place by place.
-use Rattle.std.proofs.Common.{◌≡◌, ℕ, zero, suc, ◌+◌, ◌<◌, ◌≤◌, List, [], ◌∷◌, ◌++◌, length, get_or, set, take, drop, map, refl, sym, ap, ◌∙◌, subst, add-one, append-nil, arith}
+use Rattle.std.proofs.Common.{◌≡◌, ℕ, zero, suc, ◌+◌, ◌<◌, ◌≤◌, List, [], ◌∷◌, ◌++◌, length, get_or, set, take, drop, map, All, refl, sym, ap, ◌∙◌, subst, add-one, append-nil, arith}
 use Rattle.std.specs.Simd.Lanes.{zip2}
+use Rattle.std.proofs.lemmas.List.Elements.{All-head, All-tail}
 
 -- a loop that puts the joined items in place of the left ones
 module _ {X Y : Type 0} (f : X → Y → X) where
@@ -48,3 +49,21 @@ module _ {X Y : Type 0} (f : X → Y → X) where
   pub zip2-all : (i : ℕ) (xs now : List X) (ys : List Y) → length xs ≡ length ys → length xs ≤ i
       → now ≡ zip2 f (take i xs) (take i ys) ++ drop i xs → now ≡ zip2 f xs ys
   zip2-all i xs now ys long past so_far = so_far ∙ zip2-whole i xs ys long past
+
+-- what is shown of joined items is joined from what is shown of them
+pub map-zip2 : {X Y E F : Type 0} (f : X → Y → X) (g : E → F → E) (p : X → E) (q : Y → F) (P : Y → Type 0)
+    → ((x : X) (y : Y) → P y → p (f x y) ≡ g (p x) (q y)) → (xs : List X) (ys : List Y) → All P ys
+    → map p (zip2 f xs ys) ≡ zip2 g (map p xs) (map q ys)
+map-zip2 f g p q P same [] ys each = refl
+map-zip2 f g p q P same (x ∷ xs) [] each = refl
+map-zip2 f g p q P same (x ∷ xs) (y ∷ ys) each =
+    ap (λ e. e ∷ map p (zip2 f xs ys)) (same x y (All-head P y ys each))
+    ∙ ap (λ es. g (p x) (q y) ∷ es) (map-zip2 f g p q P same xs ys (All-tail P y ys each))
+
+-- where the right items change nothing
+pub zip2-left : {X Y : Type 0} (f : X → Y → X) (xs : List X) (ys : List Y) → ((x : X) (y : Y) → f x y ≡ x) → length xs ≡ length ys
+    → zip2 f xs ys ≡ xs
+zip2-left f [] ys same long = refl
+zip2-left f (x ∷ xs) [] same long = absurd (omega arith)
+zip2-left f (x ∷ xs) (y ∷ ys) same long =
+    ap (λ z. z ∷ zip2 f xs ys) (same x y) ∙ ap (λ zs. x ∷ zs) (zip2-left f xs ys same (omega arith))

@@ -1,5 +1,5 @@
 -- Lanes of weights: the least number stands for no weight, and each other number for itself.
-use Rattle.std.specs.Prelude.{◌≢◌, ◌≤◌, ℤ, negsuc, ◌+ℤ◌, unsigned_abs, List, if◌then◌else◌}
+use Rattle.std.specs.Prelude.{◌≢◌, ◌≤◌, ℤ, negsuc, ◌+ℤ◌, unsigned_abs, List, Option, Some, None, if◌then◌else◌}
 use Rattle.std.specs.Int.{int_max}
 use Rattle.std.specs.List.{fold}
 use Rattle.std.specs.Ordering.{int_eq}
@@ -9,6 +9,10 @@ use Rattle.semiring_kit.specs.Semiring.{weight_bound}
 -- the lane of no weight: -9223372036854775808
 abbrev pub absent : ℤ
 absent = negsuc 9223372036854775807
+
+-- the weight that the lane stands for, or none
+abbrev pub weight_of_lane : ℤ → Option ℤ
+weight_of_lane lane = if int_eq lane absent then None else Some lane
 
 -- where the lane has a weight, it is within the bound
 abbrev pub IsWithin : ℤ → Type 0

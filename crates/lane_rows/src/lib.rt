@@ -5,6 +5,7 @@
 
 mod lanes;
 mod max_lanes;
+mod max_plus;
 mod truth_lanes;
 
 pub use lanes::Lanes;
