@@ -3,11 +3,14 @@
 //! it for the kits of numbers.
 #![tactic(auto)]
 
+mod dense_kit;
 mod lanes;
+mod lift;
 mod max_lanes;
 mod max_plus;
 mod truth_lanes;
 
+pub use dense_kit::DenseKit;
 pub use lanes::Lanes;
 pub use max_lanes::{ABSENT, greatest, lift_max};
 pub use truth_lanes::{any, lift_or};
