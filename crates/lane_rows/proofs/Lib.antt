@@ -1,3 +1,4 @@
+pub mod Lifts
 pub mod Runs
 pub mod MaxLanes
 pub mod TruthLanes

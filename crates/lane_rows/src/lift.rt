@@ -63,6 +63,7 @@ pub(crate) trait Lift: Drop {
         from: &[Self::Lane],
         by: Self::Lane,
     ) -> Result<(), AllocError>
+        requires size_fits { size self.now < 2 ^ 32 }
         requires is_element { key < size self.now }
         requires row_fits { FitsRow (ring self.now) (is_lane self.now) (shows self.now) (size self.now) row.old }
         requires from_fits { FitsRow (ring self.now) (is_lane self.now) (shows self.now) (size self.now) from.now }

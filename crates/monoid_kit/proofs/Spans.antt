@@ -5,6 +5,23 @@ use Rattle.monoid_kit.specs.declared.span.Span.{Span}
 use Rattle.monoid_kit.specs.Modular.{modular_sum}
 use Rattle.monoid_kit.specs.Spans.{IsSpan, AreSpans}
 
+pub AreSpans-end : (size low : ℕ) (move : ℕ → ℕ) (spans : List Span) → AreSpans size move low spans → low ≤ size
+AreSpans-end size low move [] are = omega arith
+AreSpans-end size low move (x ∷ xs) are = (let rest = AreSpans-end size (low + x.len) move xs are.1 in omega arith)
+
+-- spans say no more than where each element is moved
+pub AreSpans-same : (size low : ℕ) (move other : ℕ → ℕ) (spans : List Span) → ((k : ℕ) → k < size → move k ≡ other k)
+    → AreSpans size move low spans → AreSpans size other low spans
+AreSpans-same size low move other [] same are = are
+AreSpans-same size low move other (x ∷ xs) same are =
+    let within = AreSpans-end size (low + x.len) move xs are.1 in
+    (record {
+      begins = are.0.begins;
+      some = are.0.some;
+      moves = λ i below. sym (same (low + i) (omega arith)) ∙ are.0.moves i below;
+    },
+    AreSpans-same size (low + x.len) move other xs same are.1)
+
 module _ (move : ℕ → ℕ) where
   -- one list of spans after another
   pub AreSpans-append : (low mid size : ℕ) (xs ys : List Span) → AreSpans mid move low xs → AreSpans size move mid ys

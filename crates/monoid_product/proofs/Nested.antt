@@ -7,7 +7,7 @@ use Rattle.std.proofs.lemmas.Slice.{first_rest}
 use Rattle.std.proofs.lemmas.Nat.{div-mul-add, mod-mul-add, mul-add-lt, div_below, mod_below}
 use Rattle.monoid_kit.specs.declared.span.Span.{Span}
 use Rattle.monoid_kit.specs.Spans.{moved, IsSpan, AreSpans}
-use Rattle.monoid_kit.proofs.Spans.{AreSpans-append}
+use Rattle.monoid_kit.proofs.Spans.{AreSpans-append, AreSpans-end, AreSpans-same}
 use Rattle.monoid_product.specs.declared.component.Component.{Component}
 use Rattle.monoid_product.specs.Component.{component_size, component_mul}
 use Rattle.monoid_product.specs.ComponentOf.{plain_component, plain_components}
@@ -40,10 +40,6 @@ digit-below to size later low few inside below =
     let turned = mul_comm later size in
     omega arith
 
-pub AreSpans-end : (size low : ℕ) (move : ℕ → ℕ) (spans : List Span) → AreSpans size move low spans → low ≤ size
-AreSpans-end size low move [] are = omega arith
-AreSpans-end size low move (x ∷ xs) are = (let rest = AreSpans-end size (low + x.len) move xs are.1 in omega arith)
-
 add-if : (test : Bool) (t a b : ℕ) → t + cond test a b ≡ cond test (t + a) (t + b)
 add-if true t a b = refl
 add-if false t a b = refl
@@ -54,19 +50,6 @@ moved-shifted from to span i = by_case span.rises
     by_case : (rises : Bool) → cond rises (to + span.to + i) (to + span.to) ≡ to + cond rises (span.to + i) span.to
     by_case true = add_assoc to span.to i
     by_case false = refl
-
--- spans say no more than where each element is moved
-pub AreSpans-same : (size low : ℕ) (move other : ℕ → ℕ) (spans : List Span) → ((k : ℕ) → k < size → move k ≡ other k)
-    → AreSpans size move low spans → AreSpans size other low spans
-AreSpans-same size low move other [] same are = are
-AreSpans-same size low move other (x ∷ xs) same are =
-    let within = AreSpans-end size (low + x.len) move xs are.1 in
-    (record {
-      begins = are.0.begins;
-      some = are.0.some;
-      moves = λ i below. sym (same (low + i) (omega arith)) ∙ are.0.moves i below;
-    },
-    AreSpans-same size (low + x.len) move other xs same are.1)
 
 -- elements are moved to elements
 module _ (size : ℕ) (move : ℕ → ℕ) (closed : (k : ℕ) → k < size → move k < size) where
