@@ -1,4 +1,5 @@
 pub mod Lanes
 pub mod Rows
+pub mod RowLaws
 pub mod MaxLanes
 pub mod TruthLanes

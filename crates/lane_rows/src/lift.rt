@@ -27,6 +27,19 @@ pub(crate) trait Lift: Drop {
 
     ghost times: { Self → ℕ → ℕ → ℕ };
 
+    // Adds the row to the other.
+    fn add_row(
+        &self,
+        alloc: Global,
+        row: &mut [Self::Lane],
+        other: &[Self::Lane],
+    ) -> Result<(), AllocError>
+        requires same_length { length row.old ≡ length other.now }
+        requires row_is_good { All (IsGoodLane (ring self.now) (is_lane self.now) (shows self.now)) row.old }
+        requires other_is_good { All (IsGoodLane (ring self.now) (is_lane self.now) (shows self.now)) other.now }
+        ensures { let y = shown (ring self.now) (shows self.now) other.now in
+            OnOk result (IsLifted (ring self.now) (is_lane self.now) (shows self.now) row.old row.new y) };
+
     // Adds the products of `by` with the lanes of `from`, at the places from `to` on.
     fn lift_run(&self, row: &mut [Self::Lane], to: usize, from: &[Self::Lane], by: Self::Lane)
         requires in_row { to + length from.now ≤ length row.old }
@@ -88,6 +101,17 @@ impl<S: Lanes, M: Monoid> Lift for DenseKit<S, M> {
     ghost size = { λ s. M.size s.keys };
 
     ghost times = { λ s. M.mul s.keys };
+
+    fn add_row(
+        &self,
+        alloc: Global,
+        row: &mut [S::Lane],
+        other: &[S::Lane],
+    ) -> Result<(), AllocError> {
+        let one = self.kit.one(alloc)?;
+        self.kit.lift(row, other, self.kit.lane_of(&one));
+        Ok(())
+    }
 
     fn lift_run(&self, row: &mut [S::Lane], to: usize, from: &[S::Lane], by: S::Lane) {
         let end = to + from.len();

@@ -5,10 +5,8 @@ use Rattle.monoid_kit.specs.declared.span.Span.{Span}
 use Rattle.monoid_kit.specs.Spans.{AreSpans}
 use Rattle.lane_rows.specs.Lanes.{IsGoodLane}
 use Rattle.lane_rows.specs.Rows.{shown}
-use Rattle.lane_rows.proofs.Lifts.{NextSpan, next_span, lifting-start, lifting-more, lifting-end, shown-is_sound}
-use Rattle.lane_rows.proofs.lift.DenseKitLift.lift_key.Given as given
+use Rattle.lane_rows.proofs.Lifts.{next_span, lifting-start, lifting-more, lifting-end, shown-is_sound}
 use Rattle.lane_rows.proofs.lift.DenseKitLift.lift_key.Goals as goal
-use Rattle.lane_rows.proofs.lift.DenseKitLift.lift_key.Goals.{After-lift_span-arg-in-loop-span-1}
 
 abbrev none : Span
 none = record { from = 0; to = 0; len = 0; rises = false }
@@ -25,49 +23,30 @@ loop-span-init g c =
     (g.M.Monoid.size keys) c.args.row.now c.deref-span-items.result.now c.requires.row_fits.are_good
     (subst (AreSpans (g.M.Monoid.size keys) (g.M.Monoid.mul keys c.args.key) 0) (sym c.deref-span-items.ensures.value) c.in_ok-spans.ensures)
 
-next : (g : given.Over) (c : After-lift_span-arg-in-loop-span-1 g)
-    → NextSpan (g.M.Monoid.mul c.args.self.now.keys c.args.key) (g.M.Monoid.size c.args.self.now.keys)
-    (get_or c.deref-span-items.result.now c.loop-span.span-index none)
-next g c =
+pub lift_span-requires : goal.lift_span-requires
+lift_span-requires g c =
     let keys = c.args.self.now.keys in
     let items = c.deref-span-items.result.now in
     let i = c.loop-span.span-index in
-    next_span (g.M.Monoid.mul keys c.args.key) (g.M.Monoid.size keys) c.loop-span.invariant.low (get_or items i none) (drop i items)
-    (drop (i + 1) items)
+    let next = next_span (g.M.Monoid.mul keys c.args.key) (g.M.Monoid.size keys) c.loop-span.invariant.low (get_or items i none)
+    (drop i items) (drop (i + 1) items)
     (λ k below. (g.met.M.Monoid.laws keys).product_is_element c.args.key k c.requires.is_element below)
-    (drop_more items i none c.loop-span-test.true) c.loop-span.invariant.left
-
-pub lift_span-requires-clause-some : goal.lift_span-requires-clause-some
-lift_span-requires-clause-some g c = (next g c).some
-
-pub lift_span-requires-clause-in_from : goal.lift_span-requires-clause-in_from
-lift_span-requires-clause-in_from g c =
-    let within = (next g c).within in
-    let size = c.requires.from_fits.has_size in
-    omega arith
-
-pub lift_span-requires-clause-in_row : goal.lift_span-requires-clause-in_row
-lift_span-requires-clause-in_row g c i below =
-    let inside = (next g c).moves i below in
-    let size = c.requires.row_fits.has_size in
-    let same = c.loop-span.invariant.lifted.same_length in
-    omega arith
-
-pub lift_span-requires-clause-row_fits : goal.lift_span-requires-clause-row_fits
-lift_span-requires-clause-row_fits g c =
-    let size = c.requires.row_fits.has_size in
+    (drop_more items i none c.loop-span-test.true) c.loop-span.invariant.left in
+    let row_size = c.requires.row_fits.has_size in
+    let from_size = c.requires.from_fits.has_size in
     let same = c.loop-span.invariant.lifted.same_length in
     let fits = c.requires.size_fits in
-    omega arith
-
-pub lift_span-requires-clause-from_fits : goal.lift_span-requires-clause-from_fits
-lift_span-requires-clause-from_fits g c =
-    let size = c.requires.from_fits.has_size in
-    let fits = c.requires.size_fits in
-    omega arith
-
-pub lift_span-requires-clause-row_is_good : goal.lift_span-requires-clause-row_is_good
-lift_span-requires-clause-row_is_good g c = c.loop-span.invariant.lifted.are_good
+    record {
+      some = next.some;
+      in_from = let within = next.within in omega arith;
+      in_row = λ j below. (let inside = next.moves j below in omega arith);
+      row_fits = omega arith;
+      from_fits = omega arith;
+      row_is_good = c.loop-span.invariant.lifted.are_good;
+      from_is_good = c.requires.from_fits.are_good;
+      by_is_good = c.requires.by_is_good;
+      reaches_add_up = c.requires.reaches_add_up;
+    }
 
 pub loop-span-preserved : goal.loop-span-preserved
 loop-span-preserved g c =
