@@ -1,3 +1,4 @@
+pub mod DenseRows
 pub mod Lifts
 pub mod Runs
 pub mod MaxLanes

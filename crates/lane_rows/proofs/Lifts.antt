@@ -61,7 +61,7 @@ module _ {E L : Type 0} {r : SemiringOn E} (laws : IsSemiring r) (is_lane : L �
         (product-good x (All-head Good x xs good) (All-head (λ lane. r.reach (shows by) + r.reach (shows lane) ≤ weight_bound) x xs add_up)).sound
         (products-are_sound xs (All-tail Good x xs good) (All-tail (λ lane. r.reach (shows by) + r.reach (shows lane) ≤ weight_bound) x xs add_up))
 
-    lifted-good : (new old from : List L) → All is_lane new → length old ≡ length from
+    pub lifted-good : (new old from : List L) → All is_lane new → length old ≡ length from
         → map shows new ≡ zip2 (add_times r (shows by)) (map shows old) (map shows from)
         → All Good old → All Good from → LanesAddUp r shows by from → All Good new
     lifted-good [] old from lanes long values old_good from_good add_up = All-nil Good
@@ -235,7 +235,7 @@ first_below span n some folds within =
     let there : moved span 0 ≡ span.to = ap (λ t. cond t (span.to + 0) span.to) folds in
     omega arith
 
-range-append : (low m n all : ℕ) → all ≡ m + n → range_with_len low all ≡ range_with_len low m ++ range_with_len (low + m) n
+pub range-append : (low m n all : ℕ) → all ≡ m + n → range_with_len low all ≡ range_with_len low m ++ range_with_len (low + m) n
 range-append low zero n all is =
     let same : all ≡ n = omega arith in
     let there : low ≡ low + 0 = omega arith in

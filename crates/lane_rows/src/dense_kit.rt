@@ -54,7 +54,9 @@ impl<S: Lanes, M: Monoid> MapKit for DenseKit<S, M> {
     }
 
     fn none(&self, alloc: Global) -> Result<Self::Map, AllocError> {
-        vec![in alloc; self.kit.absent(); self.keys.size() as usize]
+        let mut row = Vec::new(alloc);
+        row.resize(self.keys.size() as usize, self.kit.absent())?;
+        Ok(row)
     }
 
     fn single(&self, alloc: Global, key: u32, elem: S::Elem) -> Result<Self::Map, AllocError> {

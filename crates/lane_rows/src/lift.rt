@@ -1,7 +1,7 @@
 //! The steps of convolutions: a row is lifted run by run, once for a key. They are methods of a trait,
 //! since a method of an impl can't call a function whose bound has an associated type that is `Send`.
 
-ghost use Rattle.std.specs.Prelude.{◌≡◌, ℕ, ◌+◌, ◌<◌, ◌≤◌, ◌^◌, All, length, map, OnOk};
+ghost use Rattle.std.specs.Prelude.{◌≡◌, ℕ, ◌+◌, ◌<◌, ◌≤◌, All, length, map, OnOk};
 ghost use Rattle.monoid_kit.specs.Spans.{moved};
 ghost use Rattle.semiring_kit.specs.Semiring.{SemiringOn};
 ghost use Rattle.lane_rows.specs.Lanes.{IsGoodLane, LanesAddUp};
@@ -43,7 +43,6 @@ pub(crate) trait Lift: Drop {
     // Adds the products of `by` with the lanes of `from`, at the places from `to` on.
     fn lift_run(&self, row: &mut [Self::Lane], to: usize, from: &[Self::Lane], by: Self::Lane)
         requires in_row { to + length from.now ≤ length row.old }
-        requires row_fits { length row.old < 2 ^ 32 }
         requires row_is_good { All (IsGoodLane (ring self.now) (is_lane self.now) (shows self.now)) row.old }
         requires from_is_good { All (IsGoodLane (ring self.now) (is_lane self.now) (shows self.now)) from.now }
         requires by_is_good { IsGoodLane (ring self.now) (is_lane self.now) (shows self.now) by }
@@ -57,8 +56,6 @@ pub(crate) trait Lift: Drop {
         requires some { 0 < span.len }
         requires in_from { span.from + span.len ≤ length from.now }
         requires in_row { (i : ℕ) → i < span.len → moved span i < length row.old }
-        requires row_fits { length row.old < 2 ^ 32 }
-        requires from_fits { length from.now < 2 ^ 32 }
         requires row_is_good { All (IsGoodLane (ring self.now) (is_lane self.now) (shows self.now)) row.old }
         requires from_is_good { All (IsGoodLane (ring self.now) (is_lane self.now) (shows self.now)) from.now }
         requires by_is_good { IsGoodLane (ring self.now) (is_lane self.now) (shows self.now) by }
@@ -76,7 +73,6 @@ pub(crate) trait Lift: Drop {
         from: &[Self::Lane],
         by: Self::Lane,
     ) -> Result<(), AllocError>
-        requires size_fits { size self.now < 2 ^ 32 }
         requires is_element { key < size self.now }
         requires row_fits { FitsRow (ring self.now) (is_lane self.now) (shows self.now) (size self.now) row.old }
         requires from_fits { FitsRow (ring self.now) (is_lane self.now) (shows self.now) (size self.now) from.now }

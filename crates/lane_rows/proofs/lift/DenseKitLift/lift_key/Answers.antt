@@ -35,13 +35,10 @@ lift_span-requires g c =
     let row_size = c.requires.row_fits.has_size in
     let from_size = c.requires.from_fits.has_size in
     let same = c.loop-span.invariant.lifted.same_length in
-    let fits = c.requires.size_fits in
     record {
       some = next.some;
       in_from = let within = next.within in omega arith;
       in_row = λ j below. (let inside = next.moves j below in omega arith);
-      row_fits = omega arith;
-      from_fits = omega arith;
       row_is_good = c.loop-span.invariant.lifted.are_good;
       from_is_good = c.requires.from_fits.are_good;
       by_is_good = c.requires.by_is_good;
