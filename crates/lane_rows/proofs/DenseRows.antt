@@ -171,51 +171,67 @@ filled-replicate {L = L} old new n len lane empty none is =
     take-nil zero = refl
     take-nil (suc m) = refl
 
+-- what the products of the values of x at the keys below n with all values of y have at key k
+abbrev pub keys_at : {E : Type 0} → SemiringOn E → ℕ → (ℕ → ℕ → ℕ) → (ℕ → E) → (ℕ → E) → ℕ → ℕ → E
+keys_at r size times x y n k = total r (λ a. moved_at r (x a) (times a) size y k) (range_with_len 0 n)
+
 -- a loop over the left keys: the products of those so far were added
 module _ {E L : Type 0} {r : SemiringOn E} (laws : IsSemiring r) (is_lane : L → Type 0) (shows : L → E) (size : ℕ) (times : ℕ → ℕ → ℕ)
     (x y : ℕ → E) (x_sound : (k : ℕ) → r.is_sound (x k)) (y_sound : (k : ℕ) → r.is_sound (y k)) where
-  abbrev pub keys_at : ℕ → ℕ → E
-  keys_at n k = total r (λ a. moved_at r (x a) (times a) size y k) (range_with_len 0 n)
-
   key-is_sound : (a k : ℕ) → r.is_sound (moved_at r (x a) (times a) size y k)
   key-is_sound a k = moved_at-is_sound laws is_lane shows (x a) (x_sound a) (times a) y y_sound size k
 
-  keys-is_sound : (n k : ℕ) → r.is_sound (keys_at n k)
+  keys-is_sound : (n k : ℕ) → r.is_sound (keys_at r size times x y n k)
   keys-is_sound n k = total-is_sound laws (λ a. moved_at r (x a) (times a) size y k) (range_with_len 0 n) (λ a a_in. key-is_sound a k)
 
-  keys-more : (n k : ℕ) → r.add (keys_at n k) (moved_at r (x n) (times n) size y k) ≡ keys_at (n + 1) k
+  keys-more : (n k : ℕ) → r.add (keys_at r size times x y n k) (moved_at r (x n) (times n) size y k) ≡ keys_at r size times x y (n + 1) k
   keys-more n k =
       let f = λ (a : ℕ). moved_at r (x a) (times a) size y k in
       let there : 0 + n ≡ n = omega arith in
-      ap (r.add (keys_at n k)) (sym (laws.addition.monoid.right_identity (f n) (key-is_sound n k)))
+      ap (r.add (keys_at r size times x y n k)) (sym (laws.addition.monoid.right_identity (f n) (key-is_sound n k)))
       ∙ sym (product_by-append laws.addition.monoid f (range_with_len 0 n) (n ∷ []) (λ a a_in. key-is_sound a k) (λ a a_in. key-is_sound a k))
       ∙ ap (total r f) (ap (λ m. range_with_len 0 n ++ m ∷ []) (sym there) ∙ sym (range-append 0 n 1 (n + 1) refl))
 
-  pub keys-start : (row : List L) → All (IsGoodLane r is_lane shows) row → IsLifted r is_lane shows row row (keys_at 0)
+  pub keys-start : (row : List L) → All (IsGoodLane r is_lane shows) row → IsLifted r is_lane shows row row (keys_at r size times x y 0)
   keys-start row good = IsLifted-none laws is_lane shows row good
 
   pub keys-lifted : (old row new : List L) (n : ℕ) → All (IsGoodLane r is_lane shows) old
-      → IsLifted r is_lane shows old row (keys_at n) → IsLifted r is_lane shows row new (moved_at r (x n) (times n) size y)
-      → IsLifted r is_lane shows old new (keys_at (n + 1))
+      → IsLifted r is_lane shows old row (keys_at r size times x y n) → IsLifted r is_lane shows row new (moved_at r (x n) (times n) size y)
+      → IsLifted r is_lane shows old new (keys_at r size times x y (n + 1))
   keys-lifted old row new n good so_far step =
-      IsLifted-same laws is_lane shows old new (λ k. r.add (keys_at n k) (moved_at r (x n) (times n) size y k)) (keys_at (n + 1))
+      IsLifted-same laws is_lane shows old new (λ k. r.add (keys_at r size times x y n k) (moved_at r (x n) (times n) size y k)) (keys_at r size times x y (n + 1))
       (keys-more n)
-      (IsLifted-then laws is_lane shows old row new (keys_at n) (moved_at r (x n) (times n) size y) good (keys-is_sound n) (key-is_sound n) so_far step)
+      (IsLifted-then laws is_lane shows old row new (keys_at r size times x y n) (moved_at r (x n) (times n) size y) good (keys-is_sound n) (key-is_sound n) so_far step)
 
   pub keys-passed : (old row : List L) (n : ℕ) → All (IsGoodLane r is_lane shows) old → x n ≡ r.zero
-      → IsLifted r is_lane shows old row (keys_at n) → IsLifted r is_lane shows old row (keys_at (n + 1))
+      → IsLifted r is_lane shows old row (keys_at r size times x y n) → IsLifted r is_lane shows old row (keys_at r size times x y (n + 1))
   keys-passed old row n good none so_far =
-      IsLifted-same laws is_lane shows old row (keys_at n) (keys_at (n + 1))
-      (λ k. sym (laws.addition.monoid.right_identity (keys_at n k) (keys-is_sound n k))
-      ∙ ap (r.add (keys_at n k)) (sym (moved_at-zero laws is_lane shows size times y y_sound (x n) n k none))
+      IsLifted-same laws is_lane shows old row (keys_at r size times x y n) (keys_at r size times x y (n + 1))
+      (λ k. sym (laws.addition.monoid.right_identity (keys_at r size times x y n k) (keys-is_sound n k))
+      ∙ ap (r.add (keys_at r size times x y n k)) (sym (moved_at-zero laws is_lane shows size times y y_sound (x n) n k none))
       ∙ keys-more n k)
       so_far
 
   pub keys-convolution : (old new : List L) (n k : ℕ) → n ≡ size → ((j : ℕ) → shown r shows old j ≡ r.zero)
-      → IsLifted r is_lane shows old new (keys_at n) → shown r shows new k ≡ convolution r size times x y k
+      → IsLifted r is_lane shows old new (keys_at r size times x y n) → shown r shows new k ≡ convolution r size times x y k
   keys-convolution old new n k end empty lifted =
       lifted.values k
-      ∙ ap (λ e. r.add e (keys_at n k)) (empty k)
-      ∙ laws.addition.monoid.left_identity (keys_at n k) (keys-is_sound n k)
-      ∙ ap (λ m. keys_at m k) end
+      ∙ ap (λ e. r.add e (keys_at r size times x y n k)) (empty k)
+      ∙ laws.addition.monoid.left_identity (keys_at r size times x y n k) (keys-is_sound n k)
+      ∙ ap (λ m. keys_at r size times x y m k) end
       ∙ sym (convolution-by_key laws is_lane shows size times y y_sound x k x_sound)
+
+-- the lane that was read at a key
+pub read-shown : {E L : Type 0} (r : SemiringOn E) (shows : L → E) (row : List L) (k : ℕ) (lane : L) → k < length row
+    → lane ≡ get_or row k lane → shows lane ≡ shown r shows row k
+read-shown r shows row k lane below read = ap shows read ∙ sym (shown-at r shows row k lane below)
+
+-- a step of the loop over left keys, as it is read off the code
+pub lifted-read : {E L : Type 0} (r : SemiringOn E) (is_lane : L → Type 0) (shows : L → E) (given row new given_from from : List L)
+    (move : ℕ → ℕ) (size : ℕ) (lane : L) (x : E) → given ≡ row → given_from ≡ from → shows lane ≡ x
+    → IsLifted r is_lane shows given new (moved_at r (shows lane) move size (shown r shows given_from))
+    → IsLifted r is_lane shows row new (moved_at r x move size (shown r shows from))
+lifted-read r is_lane shows given row new given_from from move size lane x row_is from_is x_is lifted =
+    subst (λ e. IsLifted r is_lane shows row new (moved_at r e move size (shown r shows from))) x_is
+    (subst (λ lanes. IsLifted r is_lane shows row new (moved_at r (shows lane) move size (shown r shows lanes))) from_is
+    (subst (λ lanes. IsLifted r is_lane shows lanes new (moved_at r (shows lane) move size (shown r shows given_from))) row_is lifted))
