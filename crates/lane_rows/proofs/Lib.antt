@@ -1,3 +1,4 @@
+pub mod MinLanes
 pub mod DenseRows
 pub mod Lifts
 pub mod Runs

@@ -34,16 +34,16 @@ cases_absent lane = by_test (int_eq lane absent) (Decides-int_eq lane absent)
     by_test true decides = inl (decides.0 refl)
     by_test false decides = inr (λ same. false≢true (decides.1 same))
 
-weight-absent : (lane : ℤ) → lane ≡ absent → weight_of_lane lane ≡ None
+pub weight-absent : (lane : ℤ) → lane ≡ absent → weight_of_lane lane ≡ None
 weight-absent lane same = ap weight_of_lane same
 
-weight-present : (lane : ℤ) → lane ≢ absent → weight_of_lane lane ≡ Some lane
+pub weight-present : (lane : ℤ) → lane ≢ absent → weight_of_lane lane ≡ Some lane
 weight-present lane present = ap (λ t. cond t None (Some lane)) (present-int_eq lane present)
 
 raised-absent : (weight a b : ℤ) → b ≡ absent → raised weight a b ≡ a
 raised-absent weight a b same = ap (raised weight a) same
 
-chosen-none : {W : Type 0} (choose : W → W → W) (a : Option W) → chosen choose a None ≡ a
+pub chosen-none : {W : Type 0} (choose : W → W → W) (a : Option W) → chosen choose a None ≡ a
 chosen-none choose None = refl
 chosen-none choose (Some x) = refl
 

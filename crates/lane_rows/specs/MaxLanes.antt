@@ -1,5 +1,5 @@
 -- Lanes of weights: the least number stands for no weight, and each other number for itself.
-use Rattle.std.specs.Prelude.{◌≢◌, ◌≤◌, ℤ, negsuc, ◌+ℤ◌, unsigned_abs, List, Option, Some, None, if◌then◌else◌}
+use Rattle.std.specs.Prelude.{◌≢◌, ◌≤◌, ℤ, negsuc, ◌+ℤ◌, unsigned_abs, List, Option, Some, None, option_map, neg_ℤ, if◌then◌else◌}
 use Rattle.std.specs.Int.{int_max}
 use Rattle.std.specs.List.{fold}
 use Rattle.std.specs.Ordering.{int_eq}
@@ -13,6 +13,10 @@ absent = negsuc 9223372036854775807
 -- the weight that the lane stands for, or none
 abbrev pub weight_of_lane : ℤ → Option ℤ
 weight_of_lane lane = if int_eq lane absent then None else Some lane
+
+-- the same where lanes have the sign turned
+abbrev pub opposite_of_lane : ℤ → Option ℤ
+opposite_of_lane lane = option_map neg_ℤ (weight_of_lane lane)
 
 -- where the lane has a weight, it is within the bound
 abbrev pub IsWithin : ℤ → Type 0

@@ -8,6 +8,7 @@ mod lanes;
 mod lift;
 mod max_lanes;
 mod max_plus;
+mod min_plus;
 mod truth_lanes;
 
 pub use dense_kit::DenseKit;
