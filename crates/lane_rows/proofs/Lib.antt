@@ -1,3 +1,4 @@
+pub mod CountLanes
 pub mod MinLanes
 pub mod DenseRows
 pub mod Lifts

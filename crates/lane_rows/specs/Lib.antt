@@ -3,3 +3,4 @@ pub mod Rows
 pub mod RowLaws
 pub mod MaxLanes
 pub mod TruthLanes
+pub mod CountLanes

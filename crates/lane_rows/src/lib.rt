@@ -3,6 +3,7 @@
 //! it for the kits of numbers.
 #![tactic(auto)]
 
+mod count_lanes;
 mod dense_kit;
 mod lanes;
 mod lift;
@@ -11,6 +12,7 @@ mod max_plus;
 mod min_plus;
 mod truth_lanes;
 
+pub use count_lanes::{lift_count, total_count};
 pub use dense_kit::DenseKit;
 pub use lanes::Lanes;
 pub use max_lanes::{ABSENT, greatest, lift_max};
