@@ -5,6 +5,7 @@
 
 mod count_lanes;
 mod dense_kit;
+mod faces;
 mod lanes;
 mod lift;
 mod max_lanes;
@@ -14,6 +15,7 @@ mod truth_lanes;
 
 pub use count_lanes::{lift_count, total_count};
 pub use dense_kit::DenseKit;
+pub use faces::{DenseCount, DenseMax, DenseMin, DenseTruth};
 pub use lanes::Lanes;
 pub use max_lanes::{ABSENT, greatest, lift_max};
 pub use truth_lanes::{any, lift_or};
