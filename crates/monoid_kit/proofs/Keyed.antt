@@ -48,7 +48,7 @@ module _ {E : Type 0} {is_element : E → Type 0} {unit : E} {mul : E → E → 
       ∙ ap (mul unit) (product_by-past k (low + 1) count a (omega arith))
       ∙ abelian.monoid.left_identity unit abelian.monoid.unit_is_element
 
-  product_by-at_key : (k low count : ℕ) (a : E) → is_element a → low ≤ k → k < low + count
+  pub product_by-at_key : (k low count : ℕ) (a : E) → is_element a → low ≤ k → k < low + count
       → product_by unit mul (λ b. g b (only unit (nat_eq k b) a)) (range_with_len low count) ≡ g k a
   product_by-at_key k low zero a element above below = absurd (omega arith)
   product_by-at_key k low (suc count) a element above below =

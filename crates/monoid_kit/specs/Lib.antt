@@ -2,6 +2,7 @@ pub mod Monoid
 pub mod Items
 pub mod Product
 pub mod Keyed
+pub mod Spans
 pub mod CappedSum
 pub mod CappedSumLaws
 pub mod Modular

@@ -5,6 +5,8 @@ ghost use Rattle.monoid_kit.specs.CappedSum.{capped_sum};
 ghost use Rattle.monoid_kit.specs.declared.capped_sum.TheConstants.{GREATEST_BOUND};
 
 use crate::monoid::Monoid;
+use crate::span::Span;
+use std::alloc::{AllocError, Global};
 
 /// The greatest bound of a capped sum.
 pub const GREATEST_BOUND: u32 = 8190;
@@ -38,5 +40,26 @@ impl Monoid for CappedSum {
 
     fn mul(&self, a: u32, b: u32) -> u32 {
         (a + b).min(self.bound + 1)
+    }
+
+    /// The elements whose sums are within the bound, or one past it, rise together; the rest is cut.
+    fn spans(&self, alloc: Global, a: u32) -> Result<Vec<Span>, AllocError> {
+        let len = self.bound + 2 - a;
+        let mut spans = Vec::with_capacity(alloc, 2)?;
+        spans.push(Span {
+            from: 0,
+            to: a,
+            len,
+            rises: true,
+        })?;
+        if a > 0 {
+            spans.push(Span {
+                from: len,
+                to: self.bound + 1,
+                len: a,
+                rises: false,
+            })?;
+        }
+        Ok(spans)
     }
 }

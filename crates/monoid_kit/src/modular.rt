@@ -4,6 +4,8 @@ ghost use Rattle.std.specs.Prelude.{◌≤◌};
 ghost use Rattle.monoid_kit.specs.declared.modular.TheConstants.{GREATEST_MODULUS};
 
 use crate::monoid::Monoid;
+use crate::span::Span;
+use std::alloc::{AllocError, Global};
 
 /// The greatest modulus.
 pub const GREATEST_MODULUS: u32 = 8192;
@@ -39,5 +41,26 @@ impl Monoid for Modular {
 
     fn mul(&self, a: u32, b: u32) -> u32 {
         (a + b) % self.modulus
+    }
+
+    /// The elements whose sums are below the modulus rise together, and so do the others.
+    fn spans(&self, alloc: Global, a: u32) -> Result<Vec<Span>, AllocError> {
+        let len = self.modulus - a;
+        let mut spans = Vec::with_capacity(alloc, 2)?;
+        spans.push(Span {
+            from: 0,
+            to: a,
+            len,
+            rises: true,
+        })?;
+        if a > 0 {
+            spans.push(Span {
+                from: len,
+                to: 0,
+                len: a,
+                rises: true,
+            })?;
+        }
+        Ok(spans)
     }
 }

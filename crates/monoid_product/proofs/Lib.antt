@@ -1,3 +1,4 @@
 pub mod Numbers
 pub mod Suffixes
 pub mod Digits
+pub mod Nested

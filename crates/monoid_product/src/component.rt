@@ -3,7 +3,7 @@
 
 ghost use Rattle.std.specs.Prelude.{◌≡◌, IfOk};
 
-use monoid_kit::{CappedSum, Modular, Monoid, TableMonoid};
+use monoid_kit::{CappedSum, Modular, Monoid, Span, TableMonoid};
 use std::alloc::{AllocError, Global};
 
 /// One of the monoids that a product is made of.
@@ -61,6 +61,14 @@ impl Monoid for Component {
             Component::Capped(sum) => sum.mul(a, b),
             Component::Modular(sum) => sum.mul(a, b),
             Component::Table(table) => table.mul(a, b),
+        }
+    }
+
+    fn spans(&self, alloc: Global, a: u32) -> Result<Vec<Span>, AllocError> {
+        match self {
+            Component::Capped(sum) => sum.spans(alloc, a),
+            Component::Modular(sum) => sum.spans(alloc, a),
+            Component::Table(table) => table.spans(alloc, a),
         }
     }
 }

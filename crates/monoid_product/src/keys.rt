@@ -9,7 +9,8 @@ ghost use Rattle.monoid_product.specs.ProductOf.{plain_parts};
 
 use crate::component::Component;
 use crate::product::{KEY_LIMIT, PART_LIMIT, Parts, Product};
-use monoid_kit::Monoid;
+use crate::spans::product_spans;
+use monoid_kit::{Monoid, Span};
 use std::alloc::{AllocError, Global};
 
 /// The components have more keys than 8,192: so many.
@@ -95,6 +96,10 @@ impl Monoid for Product {
             [only] => only.mul(a, b),
             parts => product_key(parts, a, b),
         }
+    }
+
+    fn spans(&self, alloc: Global, a: u32) -> Result<Vec<Span>, AllocError> {
+        product_spans(alloc, self.parts.as_slice(), self.size, a)
     }
 }
 
