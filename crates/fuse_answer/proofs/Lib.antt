@@ -3,3 +3,4 @@ pub mod AtPlaces
 pub mod Lawful
 pub mod Kept
 pub mod Aggregates
+mod FewLeaves

@@ -10,10 +10,14 @@ ghost use Rattle.test_homs.specs.Homs.{ArePrepared};
 ghost use Rattle.fuse_answer.specs.Crews.{IsCrew};
 
 use crate::crew::Crew;
+use crate::dense::lane_sum_of_kept;
+use crate::leaves::list_crew;
 use crate::sum::sum_of_kept;
-use best_k::{Best, BestK};
+use best_k::{Best, RunsByTotal, listed};
+use first_k::FirstK;
 use gta_checked::{Checked, Rows};
 use gta_spec::{KEEP_LIMIT, ROW_LIMIT};
+use monoid_kit::Monoid;
 use semiring_kit::{Count, MaxPlus, MinPlus, Truth};
 use std::alloc::{AllocError, Global};
 use std::thread::Threads;
@@ -37,7 +41,7 @@ pub fn count_of_kept<R: Threads + Sync, G: Gate + Sync>(
     requires prepared { ArePrepared checked.now (plain_rows rows.now) tests.now }
     ensures { IfOk result (λ number. number ≡ count checked.now (plain_rows rows.now)) }
 {
-    sum_of_kept(rt, alloc, crew, gate, checked, rows, tests, Count)
+    lane_sum_of_kept(rt, alloc, crew, gate, checked, rows, tests, Count)
 }
 
 /// Whether a candidate passes. Refuses only for want of memory.
@@ -57,7 +61,7 @@ pub fn any_kept<R: Threads + Sync, G: Gate + Sync>(
     requires prepared { ArePrepared checked.now (plain_rows rows.now) tests.now }
     ensures { IfOk result (λ there. there ≡ any checked.now (plain_rows rows.now)) }
 {
-    sum_of_kept(rt, alloc, crew, gate, checked, rows, tests, Truth)
+    lane_sum_of_kept(rt, alloc, crew, gate, checked, rows, tests, Truth)
 }
 
 /// The greatest total of the aggregate's measure over the candidates that pass, or None where none
@@ -79,7 +83,7 @@ pub fn greatest_kept<R: Threads + Sync, G: Gate + Sync>(
     ensures { (measure : ℕ) → goal_measure checked.now.goal ≡ Some measure
         → IfOk result (λ total. total ≡ greatest checked.now (plain_rows rows.now) measure) }
 {
-    sum_of_kept(rt, alloc, crew, gate, checked, rows, tests, MaxPlus)
+    lane_sum_of_kept(rt, alloc, crew, gate, checked, rows, tests, MaxPlus)
 }
 
 /// The least total of the aggregate's measure over the candidates that pass, or None where none
@@ -101,7 +105,7 @@ pub fn least_kept<R: Threads + Sync, G: Gate + Sync>(
     ensures { (measure : ℕ) → goal_measure checked.now.goal ≡ Some measure
         → IfOk result (λ total. total ≡ least checked.now (plain_rows rows.now) measure) }
 {
-    sum_of_kept(rt, alloc, crew, gate, checked, rows, tests, MinPlus)
+    lane_sum_of_kept(rt, alloc, crew, gate, checked, rows, tests, MinPlus)
 }
 
 /// The best k of the candidates that pass, or all where they are fewer, each with its total of the
@@ -128,14 +132,9 @@ pub fn best_kept<R: Threads + Sync, G: Gate + Sync>(
     ensures { (measure : ℕ) → goal_measure checked.now.goal ≡ Some measure → IfOk result (λ entries. entries
         ≡ map entry_of (best checked.now (plain_rows rows.now) k greatest measure)) }
 {
-    sum_of_kept(
-        rt,
-        alloc,
-        crew,
-        gate,
-        checked,
-        rows,
-        tests,
-        BestK { k, greatest },
-    )
+    let crew = list_crew(crew, rows.count, tests.product().size());
+    let ranked = RunsByTotal { greatest };
+    let kit = FirstK { ranked, k };
+    let firsts = sum_of_kept(rt, alloc, crew, gate, checked, rows, tests, kit)?;
+    listed(alloc, &firsts)
 }

@@ -1,7 +1,6 @@
 //! How many rows a leaf has, by the number of keys. No answer depends on it. specs/Leaves.antt has the numbers.
 
-ghost use Rattle.std.specs.Prelude.{◌≡◌, ◌≤◌};
-ghost use Rattle.monoid_product.specs.declared.product.TheConstants.{KEY_LIMIT};
+ghost use Rattle.std.specs.Prelude.{◌≡◌};
 ghost use Rattle.fuse_answer.specs.Crews.{IsCrew};
 ghost use Rattle.fuse_answer.specs.Leaves as leaves;
 
@@ -19,7 +18,6 @@ pub const LIST_ROWS: u32 = 1024;
 /// The crew with longer leaves where there are many keys, over rows of lanes.
 pub(crate) fn lane_crew(crew: Crew, rows: u32, keys: u32) -> Crew
     requires crew { IsCrew crew }
-    requires few_keys { keys ≤ KEY_LIMIT }
     ensures crew { IsCrew result }
     ensures leaf { result ≡ leaves.lane_crew crew rows keys }
 {
@@ -27,14 +25,13 @@ pub(crate) fn lane_crew(crew: Crew, rows: u32, keys: u32) -> Crew
         return crew;
     }
     let share = rows.div_ceil(crew.workers);
-    let leaf = crew.leaf.max((4 * keys).min(keys.max(share)));
+    let leaf = crew.leaf.max(keys.saturating_mul(4).min(keys.max(share)));
     Crew { leaf, ..crew }
 }
 
 /// The crew with longer leaves, over lists.
 pub(crate) fn list_crew(crew: Crew, rows: u32, keys: u32) -> Crew
     requires crew { IsCrew crew }
-    requires few_keys { keys ≤ KEY_LIMIT }
     ensures crew { IsCrew result }
     ensures leaf { result ≡ leaves.list_crew crew rows keys }
 {
@@ -42,6 +39,8 @@ pub(crate) fn list_crew(crew: Crew, rows: u32, keys: u32) -> Crew
         return crew;
     }
     let share = rows.div_ceil(crew.workers);
-    let leaf = crew.leaf.max(share.min(LIST_ROWS.max(16 * keys)));
+    let leaf = crew
+        .leaf
+        .max(share.min(LIST_ROWS.max(keys.saturating_mul(16))));
     Crew { leaf, ..crew }
 }

@@ -6,10 +6,13 @@
 
 mod answers;
 mod crew;
+mod dense;
 mod leaves;
 mod letters;
 mod sum;
 
 pub use answers::{any_kept, best_kept, count_of_kept, greatest_kept, least_kept};
 pub use crew::Crew;
+pub use dense::lane_sum_of_kept;
+pub use leaves::{DENSE_KEYS, LIST_ROWS, SMALL_ROWS};
 pub use sum::sum_of_kept;

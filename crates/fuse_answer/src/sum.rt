@@ -90,7 +90,7 @@ fn sum_by_keys<R: Threads + Sync, G: Gate + Sync, S: Semiring + Sync, M: Monoid 
 }
 
 /// The plan of the rows, with a key and the element of a weight for each row and label.
-fn plan_by_keys<K: MapKit>(
+pub(crate) fn plan_by_keys<K: MapKit>(
     alloc: Global,
     checked: &Checked,
     rows: &Rows,

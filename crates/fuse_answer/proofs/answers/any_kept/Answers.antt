@@ -10,5 +10,5 @@ pub returns : goal.returns
 returns g c =
     let checked = c.args.checked.now in
     let rows = plain_rows c.args.rows.now in
-    subst (λ v. IfOk c.sum_of_kept.result (λ there. there ≡ v))
-    (sum_tells (goal_weight checked rows) (kept checked rows) ∙ has_item-some (kept checked rows)) c.sum_of_kept.ensures
+    subst (λ v. IfOk c.lane_sum_of_kept.result (λ there. there ≡ v))
+    (sum_tells (goal_weight checked rows) (kept checked rows) ∙ has_item-some (kept checked rows)) c.lane_sum_of_kept.ensures

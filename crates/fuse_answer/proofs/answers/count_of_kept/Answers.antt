@@ -9,5 +9,5 @@ pub returns : goal.returns
 returns g c =
     let checked = c.args.checked.now in
     let rows = plain_rows c.args.rows.now in
-    subst (λ v. IfOk c.sum_of_kept.result (λ number. number ≡ v))
-    (sum_counts (goal_weight checked rows) (kept checked rows)) c.sum_of_kept.ensures
+    subst (λ v. IfOk c.lane_sum_of_kept.result (λ number. number ≡ v))
+    (sum_counts (goal_weight checked rows) (kept checked rows)) c.lane_sum_of_kept.ensures

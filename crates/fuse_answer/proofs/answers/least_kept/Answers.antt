@@ -11,7 +11,7 @@ pub returns : goal.returns
 returns g c = λ measure is.
     let checked = c.args.checked.now in
     let rows = plain_rows c.args.rows.now in
-    subst (λ v. IfOk c.sum_of_kept.result (λ total. total ≡ v))
+    subst (λ v. IfOk c.lane_sum_of_kept.result (λ total. total ≡ v))
     (sum_is_least (goal_weight checked rows) (kept checked rows)
     ∙ least-total checked rows measure (goal_measure checked.goal) is)
-    c.sum_of_kept.ensures
+    c.lane_sum_of_kept.ensures
