@@ -1,5 +1,6 @@
--- Two lists in order, merged, are the first k of both; and a merge taken entry by entry.
-use Rattle.std.proofs.Common.{◌≡◌, ℕ, zero, suc, ◌+◌, ◌-◌, ◌<◌, ◌≤◌, false, Some, List, [], ◌∷◌, ◌++◌, length, take, slice_get, refl, sym, ap, subst, ◌∙◌, arith, append_assoc}
+-- Two lists in order, merged, are the first k of both; and a merge taken item by item.
+use Rattle.std.proofs.Common.{◌≡◌, ℕ, zero, suc, ◌+◌, ◌-◌, ◌<◌, ◌≤◌, false, Option, Some, List, [], ◌∷◌, ◌++◌, length}
+use Rattle.std.proofs.Common.{take, slice_get, refl, sym, ap, subst, ◌∙◌, arith, append_assoc}
 use Rattle.std.proofs.lemmas.List.{append-nil}
 use Rattle.std.specs.declared.cmp.Ordering.{Ordering}
 use Rattle.std.specs.Ordering.{is_gt}
@@ -8,6 +9,7 @@ use Rattle.witness_order.specs.Rankings.{IsRanking}
 use Rattle.witness_order.specs.Ranked.{ranked, first_of, Leads, Ascends, IsRankedWithin}
 use Rattle.witness_order.proofs.Placed.{by_test, not_after_back}
 use Rattle.witness_order.proofs.Firsts.{first_of-comm, first_of-same, leads-placed, placed-leads, ranked-same}
+use Rattle.first_k.specs.declared.sum.Source.{Source}
 use Rattle.first_k.specs.declared.sum.Source.TheVariants.{Left, Right, End}
 use Rattle.first_k.specs.Merged.{next_of, merged}
 
@@ -21,7 +23,13 @@ module _ {E : Type 0} (cmp : E → E → Ordering) where
   LeadsAll-append y [] ys first second = second
   LeadsAll-append y (x ∷ xs) ys first second = (first.0, LeadsAll-append y xs ys first.1 second)
 
-  -- a merge taken entry by entry
+  -- what is next by both first items
+  pub next_is : (xs ys : List E) (x y : Option E) (source : Source) → x ≡ slice_get xs 0 → y ≡ slice_get ys 0
+      → source ≡ next_of cmp x y → next_of cmp (slice_get xs 0) (slice_get ys 0) ≡ source
+  next_is xs ys x y source left right is =
+      sym (is ∙ ap (λ o. next_of cmp o y) left ∙ ap (next_of cmp (slice_get xs 0)) right)
+
+  -- a merge taken item by item
 
   merged-left_only : (k : ℕ) (xs : List E) → merged cmp k xs [] ≡ take k xs
   merged-left_only zero xs = refl

@@ -1,5 +1,6 @@
 -- The place of an item in a list in order, and what comes of a list whose first k items it comes after.
-use Rattle.std.proofs.Common.{◌≡◌, ℕ, zero, suc, ◌-◌, ◌<◌, ◌≤◌, true, false, List, [], ◌∷◌, ◌++◌, length, map, take, drop, get_or, refl, sym, ap, ◌∙◌, arith}
+use Rattle.std.proofs.Common.{◌≡◌, ℕ, zero, suc, ◌-◌, ◌<◌, ◌≤◌, true, false, List, [], ◌∷◌, ◌++◌, length, map}
+use Rattle.std.proofs.Common.{take, drop, get_or, refl, sym, ap, ◌∙◌, arith}
 use Rattle.std.specs.List.{insert, All}
 use Rattle.std.proofs.lemmas.List.Elements.{All-append, All-take, All-drop, All-cons}
 use Rattle.std.specs.declared.cmp.Ordering.{Ordering}
@@ -7,7 +8,8 @@ use Rattle.std.specs.Ordering.{is_gt}
 use Rattle.std.proofs.lemmas.Cmp.{upto, tied_itself}
 use Rattle.witness_order.specs.Rankings.{IsRanking}
 use Rattle.witness_order.specs.Ranked.{placed, ranked, first_of, Ascends}
-use Rattle.witness_order.proofs.Placed.{by_test, placed_all, placed-after, placed-before, take-placed, take-placed_all, ranked-append, after_later}
+use Rattle.witness_order.proofs.Placed.{by_test, placed_all, placed-after, placed-before, take-placed}
+use Rattle.witness_order.proofs.Placed.{take-placed_all, ranked-append, after_later}
 use Rattle.witness_order.proofs.Firsts.{first_of-comm}
 use Rattle.witness_order.proofs.Meanings.{leads_all}
 use Rattle.first_k.proofs.Merges.{LeadsAll}
@@ -79,7 +81,8 @@ module _ {E : Type 0} (cmp : E → E → Ordering) (order : IsRanking cmp) where
       take-placed cmp k z (placed_all cmp later s)
       ∙ ap (λ l. take k (placed cmp z l)) (take-placed_all-past x s d k within after later leads.1)
       ∙ sym (take-placed cmp k z s)
-      ∙ take-placed-past cmp z s d k within (λ i below. after_later cmp order x z (get_or s i d) leads.0 (after i below))
+      ∙ take-placed-past cmp z s d k within
+      (λ i below. after_later cmp order x z (get_or s i d) leads.0 (after i below))
 
   pub first_of-past : (k : ℕ) (xs later : List E) (x d : E)
       → k ≤ length (first_of cmp k xs)
@@ -112,5 +115,6 @@ module _ {E : Type 0} (cmp : E → E → Ordering) (order : IsRanking cmp) where
       by_test (is_gt (cmp x y)) (λ further. further)
       (λ not_further. let up_to = upto order.total x y z not_further in_order in cc)
 
-  pub not_after_behind : (x y z : E) → is_gt (cmp y z) ≡ false → is_gt (cmp x y) ≡ false → is_gt (cmp x z) ≡ false
+  pub not_after_behind : (x y z : E) → is_gt (cmp y z) ≡ false → is_gt (cmp x y) ≡ false
+      → is_gt (cmp x z) ≡ false
   not_after_behind x y z in_order not_after = upto order.total x y z not_after in_order

@@ -1,12 +1,14 @@
 -- The steps of a product: one more product, a row that ends, one more row.
-use Rattle.std.proofs.Common.{◌≡◌, ℕ, zero, suc, ◌+◌, ◌<◌, ◌≤◌, true, List, [], ◌∷◌, ◌++◌, length, map, take, drop, get_or, refl, sym, ap, subst, ◌∙◌, arith, append_assoc, add-one}
+use Rattle.std.proofs.Common.{◌≡◌, ℕ, zero, suc, ◌+◌, ◌<◌, ◌≤◌, true, List, [], ◌∷◌, ◌++◌, length, map, take}
+use Rattle.std.proofs.Common.{drop, get_or, refl, sym, ap, subst, ◌∙◌, arith, append_assoc, add-one}
 use Rattle.std.proofs.Math.Seq.{drop-cons}
 use Rattle.std.proofs.lemmas.List.{append-nil, length-map, map-append, take_more, take-append-drop, take_all}
 use Rattle.std.specs.declared.cmp.Ordering.{Ordering}
 use Rattle.std.specs.Ordering.{is_gt}
 use Rattle.witness_order.specs.Rankings.{IsRanking}
 use Rattle.witness_order.specs.Ranked.{placed, first_of, Leads, Ascends, IsRankedWithin}
-use Rattle.witness_order.proofs.Firsts.{first_of-left, first_of-same, first_of-first_of, first_of-IsRankedWithin}
+use Rattle.witness_order.proofs.Firsts.{first_of-left, first_of-same, first_of-first_of}
+use Rattle.witness_order.proofs.Firsts.{first_of-IsRankedWithin}
 use Rattle.first_k.specs.FirstK.{products, reach_of}
 use Rattle.first_k.specs.FirstKLaws.{products-append}
 use Rattle.first_k.proofs.Merges.{LeadsAll, LeadsAll-Ascends}
@@ -78,7 +80,8 @@ module _ {E : Type 0} (cmp : E → E → Ordering) (order : IsRanking cmp) where
           ∙ ap (λ l. sum ++ l) (sym (map-append f (take (i + 1) row) (drop (i + 1) row)))
           ∙ ap (λ l. sum ++ map f l) whole in
           let few : length after ≤ k =
-          subst (λ l. length l ≤ k) (sym at) (first_of-IsRankedWithin cmp order k (sum ++ map f (take (i + 1) row))).few in
+          subst (λ l. length l ≤ k) (sym at)
+          (first_of-IsRankedWithin cmp order k (sum ++ map f (take (i + 1) row))).few in
           let kept : first_of cmp k ((sum ++ map f (take (i + 1) row)) ++ map f (drop (i + 1) row))
           ≡ take k (first_of cmp k (sum ++ map f (take (i + 1) row))) =
           first_of-past cmp order k (sum ++ map f (take (i + 1) row)) (map f (drop (i + 1) row))
@@ -95,7 +98,8 @@ module _ {E : Type 0} (cmp : E → E → Ordering) (order : IsRanking cmp) where
   rows_more mul k before after xs ys i d within so_far is =
       let sums = products mul (take i xs) ys in
       is ∙ ap (λ l. first_of cmp k (l ++ map (mul (get_or xs i d)) ys)) so_far
-      ∙ first_of-left cmp order k (first_of cmp k sums) sums (map (mul (get_or xs i d)) ys) (first_of-first_of cmp order k sums)
+      ∙ first_of-left cmp order k (first_of cmp k sums) sums (map (mul (get_or xs i d)) ys)
+      (first_of-first_of cmp order k sums)
       ∙ ap (λ l. first_of cmp k (sums ++ l)) (sym (append-nil (map (mul (get_or xs i d)) ys)))
       ∙ ap (first_of cmp k) (sym (products-append mul (take i xs) (get_or xs i d ∷ []) ys))
       ∙ ap (λ l. first_of cmp k (products mul l ys)) (sym (take_more xs i d within))

@@ -1,11 +1,14 @@
 -- The first k are a semiring, over any ranking and any product that keeps it.
-use Rattle.std.proofs.Common.{◌≡◌, ℕ, zero, suc, ◌+◌, ◌≤◌, max, List, [], ◌∷◌, ◌++◌, map, take, refl, sym, ap, ◌∙◌, arith, append_assoc}
+use Rattle.std.proofs.Common.{◌≡◌, ℕ, zero, suc, ◌+◌, ◌≤◌, max, List, [], ◌∷◌, ◌++◌, map, take, refl, sym, ap}
+use Rattle.std.proofs.Common.{◌∙◌, arith, append_assoc}
 use Rattle.std.proofs.lemmas.List.{append-nil, map-append}
 use Rattle.std.specs.declared.cmp.Ordering.{Ordering}
 use Rattle.witness_order.specs.Rankings.{IsRanking, KeepsRanking}
 use Rattle.witness_order.specs.Ranked.{placed, ranked, first_of, IsRankedWithin}
 use Rattle.witness_order.proofs.Placed.{by_test, placed-after, placed-before, first_of-map}
-use Rattle.witness_order.proofs.Firsts.{first_of-comm, first_of-right, first_of-left, first_of-both, first_of-same, first_of-first_of, first_of-append, first_of-swap, first_of-cross, first_of-IsRankedWithin}
+use Rattle.witness_order.proofs.Firsts.{first_of-comm, first_of-right, first_of-left, first_of-both}
+use Rattle.witness_order.proofs.Firsts.{first_of-same, first_of-first_of, first_of-append, first_of-swap}
+use Rattle.witness_order.proofs.Firsts.{first_of-cross, first_of-IsRankedWithin}
 use Rattle.semiring_kit.specs.Semiring.{IsSemiring}
 use Rattle.first_k.specs.FirstK.{products, reach_of, first_k, AddsReach}
 use Rattle.std.specs.Ordering.{is_gt}
@@ -92,7 +95,8 @@ module _ {E : Type 0} (cmp : E → E → Ordering) (order : IsRanking cmp) (unit
       ap (first_of cmp k) (products-nil mul xs) ∙ sym (ap (first_of cmp k) (products-nil mul us))
   products-left k (y ∷ ys) xs us same =
       products-column k xs y ys
-      ∙ first_of-both cmp order k (map (λ x. mul x y) xs) (map (λ x. mul x y) us) (products mul xs ys) (products mul us ys)
+      ∙ first_of-both cmp order k (map (λ x. mul x y) xs) (map (λ x. mul x y) us)
+      (products mul xs ys) (products mul us ys)
       (map-alike (λ x. mul x y) (λ x z. kept.keeps_right x z y) k xs us same) (products-left k ys xs us same)
       ∙ sym (products-column k us y ys)
 
@@ -107,6 +111,16 @@ module _ {E : Type 0} (cmp : E → E → Ordering) (order : IsRanking cmp) (unit
   first_of-products k xs ys =
       products-alike k (first_of cmp k xs) (first_of cmp k ys) xs ys
       (first_of-first_of cmp order k xs) (first_of-first_of cmp order k ys)
+
+  -- or either of them
+
+  cut_left : (k : ℕ) (xs ys : List E)
+      → first_of cmp k (products mul (first_of cmp k xs) ys) ≡ first_of cmp k (products mul xs ys)
+  cut_left k xs ys = products-left k ys (first_of cmp k xs) xs (first_of-first_of cmp order k xs)
+
+  cut_right : (k : ℕ) (xs ys : List E)
+      → first_of cmp k (products mul xs (first_of cmp k ys)) ≡ first_of cmp k (products mul xs ys)
+  cut_right k xs ys = products-right k xs (first_of cmp k ys) ys (first_of-first_of cmp order k ys)
 
   products-split : (k : ℕ) (xs ys zs : List E)
       → first_of cmp k (products mul xs (ys ++ zs)) ≡ first_of cmp k (products mul xs ys ++ products mul xs zs)
@@ -185,7 +199,8 @@ module _ {E : Type 0} (cmp : E → E → Ordering) (order : IsRanking cmp) (unit
         associative = λ a b c a_in b_in c_in.
             first_of-left cmp order k (first_of cmp k (a ++ b)) (a ++ b) c (first_of-first_of cmp order k (a ++ b))
             ∙ ap (first_of cmp k) (append_assoc a b c)
-            ∙ sym (first_of-right cmp order k a (first_of cmp k (b ++ c)) (b ++ c) (first_of-first_of cmp order k (b ++ c)));
+            ∙ sym (first_of-right cmp order k a (first_of cmp k (b ++ c)) (b ++ c)
+            (first_of-first_of cmp order k (b ++ c)));
       };
       commutative = λ a b a_in b_in. first_of-comm cmp order k a b;
     };
@@ -193,22 +208,22 @@ module _ {E : Type 0} (cmp : E → E → Ordering) (order : IsRanking cmp) (unit
       unit_is_element = first_of-IsRankedWithin cmp order k (unit ∷ []);
       product_is_element = λ a b a_in b_in. first_of-IsRankedWithin cmp order k (products mul a b);
       left_identity = λ a a_in.
-          products-left cmp order unit mul kept k a (first_of cmp k (unit ∷ [])) (unit ∷ []) (first_of-first_of cmp order k (unit ∷ []))
+          cut_left cmp order unit mul kept k (unit ∷ []) a
           ∙ ap (first_of cmp k) (unit-products mul unit kept.left_identity a) ∙ first_of-same cmp order k a a_in;
       right_identity = λ a a_in.
-          products-right cmp order unit mul kept k a (first_of cmp k (unit ∷ [])) (unit ∷ []) (first_of-first_of cmp order k (unit ∷ []))
+          cut_right cmp order unit mul kept k a (unit ∷ [])
           ∙ ap (first_of cmp k) (products-unit mul unit kept.right_identity a) ∙ first_of-same cmp order k a a_in;
       associative = λ a b c a_in b_in c_in.
-          products-left cmp order unit mul kept k c (first_of cmp k (products mul a b)) (products mul a b) (first_of-first_of cmp order k (products mul a b))
+          cut_left cmp order unit mul kept k (products mul a b) c
           ∙ ap (first_of cmp k) (products-products mul kept.associative a b c)
-          ∙ sym (products-right cmp order unit mul kept k a (first_of cmp k (products mul b c)) (products mul b c) (first_of-first_of cmp order k (products mul b c)));
+          ∙ sym (cut_right cmp order unit mul kept k a (products mul b c));
     };
     distributes_left = λ a b c a_in b_in c_in.
-        products-right cmp order unit mul kept k a (first_of cmp k (b ++ c)) (b ++ c) (first_of-first_of cmp order k (b ++ c))
+        cut_right cmp order unit mul kept k a (b ++ c)
         ∙ products-split cmp order unit mul kept k a b c
         ∙ sym (first_of-append cmp order k (products mul a b) (products mul a c));
     distributes_right = λ a b c a_in b_in c_in.
-        products-left cmp order unit mul kept k c (first_of cmp k (a ++ b)) (a ++ b) (first_of-first_of cmp order k (a ++ b))
+        cut_left cmp order unit mul kept k (a ++ b) c
         ∙ ap (first_of cmp k) (products-append mul a b c)
         ∙ sym (first_of-append cmp order k (products mul a c) (products mul b c));
     absorbs_left = λ a a_in. first_of-nil cmp k;

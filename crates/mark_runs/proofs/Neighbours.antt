@@ -1,5 +1,6 @@
 -- The marks of runs: of two runs as one, of a run cut in two, and of lists one after another.
-use Rattle.std.proofs.Common.{◌≡◌, ℕ, zero, suc, ◌+◌, ◌-◌, ◌<◌, ◌≤◌, List, [], ◌∷◌, ◌++◌, length, take, get_or, refl, sym, ap, ◌∙◌, arith, append_assoc}
+use Rattle.std.proofs.Common.{◌≡◌, ℕ, zero, suc, ◌+◌, ◌-◌, ◌<◌, ◌≤◌, List, [], ◌∷◌, ◌++◌, length, take}
+use Rattle.std.proofs.Common.{get_or, refl, sym, ap, ◌∙◌, arith, append_assoc}
 use Rattle.std.proofs.lemmas.List.{append-nil, take_more}
 use Rattle.shape_gen.specs.declared.mark.Mark.{Mark}
 use Rattle.mark_runs.specs.declared.run.Run.{Run}
@@ -50,8 +51,8 @@ neighbours-joined row n m row' label label' count goes_on same is =
     ∙ ap (λ l. neighbours row n label ++ neighbours row' m l) same
 
 -- one more run
-pub marks_of_runs-more : (marks : List Mark) (xs : List Run) (i : ℕ) (x d : Run) → i < length xs → x ≡ get_or xs i d
-    → marks ≡ marks_of_runs (take i xs) ++ marks_of_run x → marks ≡ marks_of_runs (take (i + 1) xs)
+pub marks_of_runs-more : (marks : List Mark) (xs : List Run) (i : ℕ) (x d : Run) → i < length xs
+    → x ≡ get_or xs i d → marks ≡ marks_of_runs (take i xs) ++ marks_of_run x → marks ≡ marks_of_runs (take (i + 1) xs)
 marks_of_runs-more marks xs i x d within at is =
     is ∙ ap (λ l. marks_of_runs (take i xs) ++ l) (sym (append-nil (marks_of_run x)))
     ∙ sym (marks_of_runs-append (take i xs) (x ∷ []))
@@ -67,7 +68,8 @@ marks_of_runs-meet front back xs ys last first run left right is =
     ∙ ap (λ l. marks_of_runs front ++ (l ++ marks_of_runs back)) is
     ∙ ap (λ l. marks_of_runs front ++ l) (append_assoc (marks_of_run last) (marks_of_run first) (marks_of_runs back))
     ∙ sym (append_assoc (marks_of_runs front) (marks_of_run last) (marks_of_run first ++ marks_of_runs back))
-    ∙ ap (λ l. (marks_of_runs front ++ l) ++ (marks_of_run first ++ marks_of_runs back)) (sym (append-nil (marks_of_run last)))
+    ∙ ap (λ l. (marks_of_runs front ++ l) ++ (marks_of_run first ++ marks_of_runs back))
+    (sym (append-nil (marks_of_run last)))
     ∙ ap (λ l. l ++ (marks_of_run first ++ marks_of_runs back)) (sym (marks_of_runs-append front (last ∷ [])))
     ∙ ap (λ l. marks_of_runs l ++ (marks_of_run first ++ marks_of_runs back)) (sym left)
     ∙ ap (λ l. marks_of_runs xs ++ marks_of_runs l) (sym right)

@@ -166,7 +166,7 @@ fn around(
 ) -> Result<SmallVec<Run, 2>, AllocError>
     ensures { IfOk result (λ runs. runs.items ≡ front.now ++ run ∷ back.now) }
 {
-    let mut runs = SmallVec::new(alloc);
+    let mut runs = SmallVec::with_capacity(alloc, front.len() + 1 + back.len())?;
     runs.extend_from_slice(front)?;
     runs.push(run)?;
     runs.extend_from_slice(back)?;

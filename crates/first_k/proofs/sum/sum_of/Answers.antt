@@ -1,7 +1,8 @@
 -- Each candidate is the next one, and the merge of all is the first k of all.
-use Rattle.std.proofs.Common.{◌≡◌, sym, ◌∙◌, arith}
+use Rattle.std.proofs.Common.{◌≡◌, ◌∙◌, arith}
 use Rattle.first_k.specs.Merged.{merged}
-use Rattle.first_k.proofs.Merges.{merge_left, merge_right, merge_end, merge_full, merged-first_of}
+use Rattle.first_k.specs.declared.sum.Source.TheVariants.{Left, Right, End}
+use Rattle.first_k.proofs.Merges.{next_is, merge_left, merge_right, merge_end, merge_full, merged-first_of}
 use Rattle.first_k.proofs.sum.sum_of.Goals as goal
 use Rattle.first_k.proofs.sum.sum_of.Goals.{else-merging-test, then-merging-test+in-End}
 
@@ -15,7 +16,9 @@ merging-preserved-in_ok-push-in-Left g c =
           rw (c.in_ok-push-in-Left.ensures.items, c.in_ok-push-in-Left.ensures.len)
           (merge_left order c.args.k c.merging.sum.len c.merging.sum.items
           (items c.merging.a) (items c.merging.b) _ c.merging.invariant.so_far _ _ (omega arith)
-          c.in_ok-take-in-Left.ensures (rw (sym c.peek.ensures, sym c.peek-in-merging.ensures) (sym c.in-Left.ensures)));
+          c.in_ok-take-in-Left.ensures
+          (next_is order (items c.merging.a) (items c.merging.b) _ _ Left c.peek.ensures c.peek-in-merging.ensures
+          c.in-Left.ensures));
     }
 
 pub merging-preserved : goal.merging-preserved
@@ -28,7 +31,9 @@ merging-preserved g c =
           rw (c.in_ok-push-in-Right.ensures.items, c.in_ok-push-in-Right.ensures.len)
           (merge_right order c.args.k c.merging.sum.len c.merging.sum.items
           (items c.merging.a) (items c.merging.b) _ c.merging.invariant.so_far _ _ (omega arith)
-          c.in_ok-take-in-Right.ensures (rw (sym c.peek.ensures, sym c.peek-in-merging.ensures) (sym c.in-Right.ensures)));
+          c.in_ok-take-in-Right.ensures
+          (next_is order (items c.merging.a) (items c.merging.b) _ _ Right c.peek.ensures c.peek-in-merging.ensures
+          c.in-Right.ensures));
     }
 
 pub returns : goal.returns
@@ -41,11 +46,13 @@ returns g c =
     elim c.merging-test.branch [
       | else-merging-test w ↦
           merge_full order c.args.k c.merging.sum.len c.merging.sum.items
-          (items c.merging.a) (items c.merging.b) _ c.merging.invariant.so_far (omega (arith, w.merging-test.false))
+          (items c.merging.a) (items c.merging.b) _ c.merging.invariant.so_far
+          (omega (arith, w.merging-test.false))
       | then-merging-test+in-End w ↦
           merge_end order c.args.k c.merging.sum.len c.merging.sum.items
           (items c.merging.a) (items c.merging.b) _ c.merging.invariant.so_far
-          (rw (sym w.peek.ensures, sym w.peek-in-merging.ensures) (sym w.in-End.ensures))
+          (next_is order (items c.merging.a) (items c.merging.b) _ _ End w.peek.ensures w.peek-in-merging.ensures
+          w.in-End.ensures)
     ] in
     all
     ∙ merged-first_of order (g.met.R.Ranked.ranking c.args.ranked.now) c.args.k

@@ -26,9 +26,11 @@ walk-preserved c =
     let same = rw (c.in-Some-Some.is-0, c.in-Some-Some.is-1) at c.walk.invariant.same in
     record {
       even =
-          walk_even x y c.walk.a c.walk.b count alike left right c.behind-left.ensures.taken c.behind-right.ensures.taken even;
+          walk_even x y c.walk.a c.walk.b count alike left right
+          c.behind-left.ensures.taken c.behind-right.ensures.taken even;
       same =
-          walk_on x y c.walk.a c.walk.b count alike left right c.behind-left.ensures.taken c.behind-right.ensures.taken
+          walk_on x y c.walk.a c.walk.b count alike left right
+          c.behind-left.ensures.taken c.behind-right.ensures.taken
           ∙ same;
       left_ends = c.behind-left.ensures.none_left;
       right_ends = c.behind-right.ensures.none_left;

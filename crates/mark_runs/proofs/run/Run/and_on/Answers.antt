@@ -7,4 +7,5 @@ pub returns : goal.returns
 returns c =
     let a = c.args.self in
     let b = c.args.other in
-    neighbours-joined a.row a.count b.count b.row a.label b.label c.in_ok-count.count (omega arith) (omega arith) (omega arith)
+    neighbours-joined a.row a.count b.count b.row a.label b.label c.in_ok-count.count
+    (omega arith) (omega arith) (omega arith)
