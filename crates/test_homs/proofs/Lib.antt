@@ -1,3 +1,11 @@
 pub mod Firsts
 pub mod Pieces
-pub mod Totals
+pub mod Lists
+pub mod PreparedList
+pub mod AddedTotal
+pub mod ComparedLaw
+pub mod RemainderLaw
+pub mod FoldLaw
+pub mod KindLaws
+pub mod PreparedTests
+pub mod JoinedTests

@@ -4,7 +4,7 @@ ghost use Rattle.std.specs.Prelude.{◌≡◌, ◌<◌, ◌≤◌, length, nat_a
 ghost use Rattle.gta_checked.specs.PlainRows.{plain_rows};
 ghost use Rattle.gta_meaning.specs.InRange.{HasColumnsOf};
 ghost use Rattle.gta_meaning.specs.declared.values.TheConstants.{VALUE_BOUND};
-ghost use Rattle.test_homs.specs.Added as added;
+ghost use Rattle.test_homs.specs.Added.{added_at, IsAddedWithin};
 
 use gta_checked::{Checked, Rows};
 use gta_meaning::value_of;
@@ -19,9 +19,9 @@ pub(crate) enum Added {
 /// What a row with a label adds. It takes no memory.
 pub(crate) fn added_at(checked: &Checked, rows: &Rows, added: Added, row: u32, label: u32) -> i128
     requires columns { HasColumnsOf checked.now (plain_rows rows.now) }
-    requires within { added.IsAddedWithin (length checked.now.measures) added }
+    requires within { IsAddedWithin (length checked.now.measures) added }
     requires row_in_range { row < rows.now.count }
-    ensures value { result ≡ added.added_at checked.now (plain_rows rows.now) added row label }
+    ensures value { result ≡ added_at checked.now (plain_rows rows.now) added row label }
     ensures bounded { nat_abs result ≤ VALUE_BOUND }
 {
     match added {

@@ -6,6 +6,7 @@ ghost use Rattle.std.specs.List.{range_with_len};
 ghost use Rattle.monoid_product.specs.ComponentOf.{plain_components};
 ghost use Rattle.monoid_product.specs.Product.{AreDigits, key_count};
 ghost use Rattle.monoid_product.specs.ProductOf.{plain_parts};
+ghost use Rattle.monoid_product.specs.declared.product.TheConstants.{PART_LIMIT};
 ghost use Rattle.test_homs.specs.Joined as joined;
 ghost use Rattle.test_homs.specs.Prepared.{plain_prepared, HasLetters};
 
@@ -67,6 +68,7 @@ pub(crate) fn accepted_keys(
     product: &Product,
     tests: &[Prepared],
 ) -> Result<Vec<bool>, AllocError>
+    requires few { length tests.now ≤ PART_LIMIT }
     requires product { plain_parts product.now ≡ joined.components (map plain_prepared tests.now) }
     ensures { IfOk result (λ accept. accept.items ≡ joined.accepted_keys (map plain_prepared tests.now)) }
 {
@@ -78,6 +80,7 @@ pub(crate) fn accepted_keys(
 }
 
 fn key_accepted(product: &Product, tests: &[Prepared], key: u32) -> bool
+    requires few { length tests.now ≤ PART_LIMIT }
     requires product { plain_parts product.now ≡ joined.components (map plain_prepared tests.now) }
     requires is_key { key < key_count (plain_parts product.now) }
     ensures { result ≡ joined.key_accepted (map plain_prepared tests.now) key }

@@ -13,7 +13,7 @@ ghost use Rattle.test_homs.specs.Negatives.{first_negative};
 ghost use Rattle.test_homs.specs.Sizes.{key_count};
 ghost use Rattle.test_homs.specs.declared.tests_of.ValueFault.TheVariants.{Memory};
 ghost use Rattle.test_homs.specs.Ends.{IsEndOf};
-ghost use Rattle.monoid_product.specs.declared.product.TheConstants.{KEY_LIMIT};
+ghost use Rattle.monoid_product.specs.declared.product.TheConstants.{KEY_LIMIT, PART_LIMIT};
 
 use crate::joined::{accepted_keys, components, keys};
 use crate::kinds::prepared_tests;
@@ -158,6 +158,7 @@ fn tests_in(
     count: usize,
     labels: u32,
 ) -> Result<Tests, AllocError>
+    requires few { length tests.now ≤ PART_LIMIT }
     requires product { plain_parts product ≡ components (map plain_prepared tests.now) }
     requires letters { All (HasLetters count) (map plain_prepared tests.now) }
     ensures { IfOk result (λ made. made ≡ joined count labels (map plain_prepared tests.now)) }
