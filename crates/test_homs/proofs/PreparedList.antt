@@ -44,13 +44,16 @@ digit-below (t ∷ ts) key is_key (suc k) d below =
     digit-below ts (key % keys)
     (mod_below key keys (some-factor (component_size (plain_component t.component)) keys key is_key)) k d (omega arith)
 
-pub length-components : (tests : List Prepared) → length (components (plains tests)) ≡ length tests
+length-components : (tests : List Prepared) → length (components (plains tests)) ≡ length tests
 length-components [] = refl
 length-components (t ∷ ts) = ap suc (length-components ts)
 
-pub length-digits : (parts : List PlainComponent) (key : ℕ) → length (digits parts key) ≡ length parts
+length-digits : (parts : List PlainComponent) (key : ℕ) → length (digits parts key) ≡ length parts
 length-digits [] key = refl
 length-digits (c ∷ cs) key = ap suc (length-digits cs _)
+
+pub length-key_digits : (tests : List Prepared) (key : ℕ) → length (digits (components (plains tests)) key) ≡ length tests
+length-key_digits tests key = length-digits (components (plains tests)) key ∙ length-components tests
 
 -- whether a test accepts its digit
 abbrev pub accepts_at : List Prepared → List ℕ → ℕ → Prepared → Bool

@@ -57,7 +57,7 @@ fn fill_digits(digits: &mut Vec<u32>, tests: &[Prepared], place: usize) -> Resul
 {
     digits.clear();
     for test in tests {
-        digits.push(test.letters[place])?;
+        digits.push(test.letter(place))?;
     }
     Ok(())
 }
@@ -86,7 +86,7 @@ fn key_accepted(product: &Product, tests: &[Prepared], key: u32) -> bool
     ensures { result ≡ joined.key_accepted (map plain_prepared tests.now) key }
 {
     for k in 0..tests.len() {
-        if !tests[k].accept[product.digit(key, k as u32) as usize] {
+        if !tests[k].accepts(product.digit(key, k as u32)) {
             return false;
         }
     }

@@ -1,4 +1,4 @@
-use Rattle.std.proofs.Common.{◌≡◌, ◌<◌, length, slice_index_or, refl, sym, subst, arith}
+use Rattle.std.proofs.Common.{◌≡◌, ◌<◌, length, slice_index_or, refl, sym, subst}
 use Rattle.gta_meaning.proofs.Parts.{item-within}
 use Rattle.monoid_product.specs.Product.{AreDigits}
 use Rattle.test_homs.specs.Joined.{components, digits_at}
@@ -7,14 +7,12 @@ use Rattle.test_homs.proofs.Lists.{map-whole}
 use Rattle.test_homs.proofs.PreparedList.{plains, digits_at-AreDigits}
 use Rattle.test_homs.proofs.joined.fill_digits.Goals as goal
 
-pub index-requires : goal.index-requires
-index-requires c =
-    let letters = c.test-item.result.letters in
-    let in_range : c.args.place < length letters.items =
-    item-within plain_prepared c.args.tests.now (plains c.args.tests.now) refl
-    (λ (test : PlainPrepared). c.args.place < length test.letters) c.loop-test.test-index c.test-item.result
-    c.loop-test-test.true c.test-item.is c.requires.in_range in
-    omega (arith, letters.ok)
+pub letter-requires : goal.letter-requires
+letter-requires c = record {
+  in_range = item-within plain_prepared c.args.tests.now (plains c.args.tests.now) refl
+      (λ (test : PlainPrepared). c.args.place < length test.letters) c.loop-test.test-index c.test-item.result
+      c.loop-test-test.true c.test-item.is c.requires.in_range;
+}
 
 pub returns-clause-digits : goal.returns-clause-digits
 returns-clause-digits c =
