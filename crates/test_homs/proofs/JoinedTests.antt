@@ -22,7 +22,7 @@ use Rattle.test_homs.specs.Homs.{PlainTests, accepts}
 use Rattle.test_homs.specs.Homs as homs
 use Rattle.test_homs.specs.Joined.{components, digits_at, key_at, all_accept, key_accepted, joined}
 use Rattle.test_homs.specs.Prepared.{PlainPrepared, HasLetters, prepared_of}
-use Rattle.test_homs.proofs.PreparedTests.{letter-at, length-letters_of, accept-at}
+use Rattle.test_homs.proofs.PreparedTests.{letter-at, letter-below, length-letters_of, accept-at}
 
 All-IsIn : {A : Type 0} (P : A → Type 0) (xs : List A) → All P xs → (x : A) → IsIn x xs → P x
 All-IsIn P [] all x x_in = absurd x_in
@@ -99,6 +99,15 @@ module _ (rows : PlainRows) (labels : ℕ) {T : Type 0} (hom : T → Hom) where
     products-AreDigits : (c : List Mark) (ts : List T) → All Is ts → AreDigits (parts ts) (map (product c) ts)
     products-AreDigits c ts all = AreDigits-map (product c) (product-below c) ts all
 
+    places-AreDigits : (place : ℕ) (ts : List T) → All Is ts → AreDigits (parts ts) (digits_at (map plain ts) place)
+    places-AreDigits place [] all = tt
+    places-AreDigits place (t ∷ ts) all =
+        let is = All-head Is t ts all in
+        let unit_in = is.monoid.unit_is_element in (
+          letter-below (hom t) rows labels is.letters (omega arith) place,
+          places-AreDigits place ts (All-tail Is t ts all),
+        )
+
     -- each digit decides its test
     digits-decide : (c : List Mark) → IsInRange rows.count labels c → (ts : List T) → All Is ts
         → all_accept (map plain ts) (map (product c) ts) ≡ list_all (λ t. passes t c) ts
@@ -150,3 +159,9 @@ module _ (rows : PlainRows) (labels : ℕ) {T : Type 0} (hom : T → Hom) where
           (key_of-is_key (parts ts) ds are_digits) (omega arith)
           ∙ ap (all_accept (map plain ts)) (digits-key_of (parts ts) ds are_digits)
           ∙ digits-decide c in_range ts all
+
+      pub keys-are_keys : AllElements (λ key. key < key_count (parts ts)) (λ key. key) whole.letters
+      keys-are_keys =
+          AllElements-map (λ key. key < key_count (parts ts)) (λ key. key) (key_at (map plain ts))
+          (range_with_len 0 (rows.count * labels))
+          (λ place _. key_of-is_key (parts ts) (digits_at (map plain ts) place) (places-AreDigits place ts all))

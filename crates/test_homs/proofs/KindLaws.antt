@@ -16,7 +16,7 @@ use Rattle.test_homs.specs.declared.added.Added.TheVariants.{Measure, One}
 use Rattle.test_homs.specs.Added.{added_at}
 use Rattle.test_homs.specs.Hom.{Hom, IsHomOf}
 use Rattle.test_homs.specs.Kinds.{hom_of, hom_of_check}
-use Rattle.test_homs.specs.Negatives.{negative_of_test, negative_from}
+use Rattle.test_homs.specs.Negatives.{negative_of_test, negative_from, first_negative}
 use Rattle.test_homs.proofs.AddedTotal.{added_total, added_total-one}
 use Rattle.test_homs.proofs.ComparedLaw.{compared-IsHomOf}
 use Rattle.test_homs.proofs.Firsts.{natural-values, negative_from-cons_none}
@@ -82,3 +82,6 @@ module _ (checked : PlainChecked) (rows : PlainRows) (within : IsWithinLimits ch
       let both = negative_from-cons_none checked rows t ts number none in
       All-cons IsHomFor t ts (hom_of-IsHomOf number t (All-head Within t ts all) both.0)
       (homs-from ts (number + 1) (All-tail Within t ts all) both.1)
+
+  pub homs_of-AreHoms : first_negative checked rows ≡ None → All IsHomFor checked.tests
+  homs_of-AreHoms none = homs-from checked.tests 0 within.tests none

@@ -9,3 +9,4 @@ pub mod FoldLaw
 pub mod KindLaws
 pub mod PreparedTests
 pub mod JoinedTests
+pub mod Preparations
