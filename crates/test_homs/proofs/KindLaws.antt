@@ -1,5 +1,5 @@
 -- Each kind of test keeps the law, where no compared sum has a negative value.
-use Rattle.std.proofs.Common.{◌≡◌, ℕ, ◌+◌, ◌<◌, ℤ, pos, ◌≤ℤ◌, Bool, List, [], ◌∷◌, length, All, None, sym, ap, ◌∙◌, arith}
+use Rattle.std.proofs.Common.{◌≡◌, ℕ, ◌+◌, ◌<◌, pos, ◌≤ℤ◌, Bool, List, [], ◌∷◌, length, All, None, ap, ◌∙◌, arith}
 use Rattle.std.proofs.lemmas.Int.{ints}
 use Rattle.std.proofs.lemmas.List.Elements.{All-head, All-tail, All-cons}
 use Rattle.shape_gen.specs.declared.mark.Mark.{Mark}

@@ -1,5 +1,5 @@
 -- Tests that compare a sum of natural numbers with a bound.
-use Rattle.std.specs.Prelude.{ℕ, ◌+◌, min, ℤ, pos, nat_abs}
+use Rattle.std.specs.Prelude.{◌+◌, min, ℤ, pos, nat_abs}
 use Rattle.gta_spec.specs.declared.parts.Cmp.{Cmp}
 use Rattle.gta_checked.specs.Plain.{PlainChecked}
 use Rattle.gta_meaning.specs.Values.{compares}

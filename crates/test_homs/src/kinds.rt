@@ -12,7 +12,7 @@ ghost use Rattle.test_homs.specs.Prepared as plain;
 use crate::added::Added;
 use crate::compared::Compared;
 use crate::fold::Fold;
-use crate::prepare::prepare;
+use crate::kind::prepare;
 use crate::prepared::Prepared;
 use crate::remainder::Remainder;
 use gta_checked::{Checked, Rows, Test};
@@ -52,9 +52,9 @@ fn prepared_test(
 {
     match test {
         Test::Sum { measure, check } => {
-            checked_sum(alloc, checked, rows, Added::Measure(*measure), *check)
+            prepared_sum(alloc, checked, rows, Added::Measure(*measure), *check)
         }
-        Test::Length { check } => checked_sum(alloc, checked, rows, Added::One, *check),
+        Test::Length { check } => prepared_sum(alloc, checked, rows, Added::One, *check),
         Test::Fold {
             table,
             picks,
@@ -72,7 +72,7 @@ fn prepared_test(
     }
 }
 
-fn checked_sum(
+fn prepared_sum(
     alloc: Global,
     checked: &Checked,
     rows: &Rows,

@@ -11,7 +11,6 @@ mod joined;
 mod kind;
 mod kinds;
 mod negatives;
-mod prepare;
 mod prepared;
 mod remainder;
 mod tests_of;

@@ -17,7 +17,7 @@ accepts-requires c =
       is_element = subst (λ (element : ℕ). element < component_size (plain_component c.index-tests-k.result.component))
           (sym digit)
           (subst (λ (test : Prepared). get_or (digits (components (plains tests)) c.args.key) c.loop-k.k 0
-              < component_size (plain_component test.component)) (sym c.index-tests-k.is) below);
+          < component_size (plain_component test.component)) (sym c.index-tests-k.is) below);
     }
 
 pub returns-then-not-accepts : goal.returns-then-not-accepts

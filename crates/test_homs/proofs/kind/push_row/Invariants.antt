@@ -1,7 +1,7 @@
 use Rattle.std.proofs.Common.{◌≡◌, ◌<◌, ◌++◌, All, map}
 use Rattle.std.specs.List.{range_with_len}
 use Rattle.monoid_product.specs.Component.{component_size}
-use Rattle.test_homs.proofs.prepare.push_row.Given as goal
+use Rattle.test_homs.proofs.kind.push_row.Given as goal
 
 -- the letters of the labels so far
 abbrev pub invariant-loop-label : goal.invariant-loop-label

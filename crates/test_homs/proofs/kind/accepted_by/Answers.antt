@@ -1,6 +1,6 @@
 use Rattle.std.proofs.Common.{[]}
 use Rattle.test_homs.proofs.Pieces.{items-more}
-use Rattle.test_homs.proofs.prepare.accepted_by.Goals as goal
+use Rattle.test_homs.proofs.kind.accepted_by.Goals as goal
 
 pub loop-element-preserved : goal.loop-element-preserved
 loop-element-preserved g c =

@@ -2,7 +2,7 @@ use Rattle.std.proofs.Common.{◌≡◌, ◌<◌, All}
 use Rattle.std.specs.List.{flat_map, range_with_len}
 use Rattle.monoid_product.specs.Component.{component_size}
 use Rattle.test_homs.specs.Prepared.{row_letters}
-use Rattle.test_homs.proofs.prepare.letters_of.Given as goal
+use Rattle.test_homs.proofs.kind.letters_of.Given as goal
 
 -- the letters of the rows so far
 abbrev pub invariant-loop-row : goal.invariant-loop-row

@@ -1,7 +1,7 @@
 use Rattle.std.proofs.Common.{◌<◌, All, length, sym, subst, ap, ◌∙◌}
 use Rattle.std.proofs.lemmas.List.FromFn.{length-map-range_with_len}
 use Rattle.monoid_product.specs.Component.{PlainComponent, component_size}
-use Rattle.test_homs.proofs.prepare.prepare.Goals as goal
+use Rattle.test_homs.proofs.kind.prepare.Goals as goal
 
 pub invariant_of-result : goal.invariant_of-result
 invariant_of-result g c = record {

@@ -1,7 +1,7 @@
 use Rattle.std.proofs.Common.{◌++◌, sym, ap, ◌∙◌}
 use Rattle.test_homs.specs.Prepared.{row_letters}
 use Rattle.test_homs.proofs.Pieces.{rows-more}
-use Rattle.test_homs.proofs.prepare.letters_of.Goals as goal
+use Rattle.test_homs.proofs.kind.letters_of.Goals as goal
 
 pub loop-row-preserved : goal.loop-row-preserved
 loop-row-preserved g c =

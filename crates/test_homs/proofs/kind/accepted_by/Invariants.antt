@@ -1,6 +1,6 @@
 use Rattle.std.proofs.Common.{◌≡◌, map}
 use Rattle.std.specs.List.{range_with_len}
-use Rattle.test_homs.proofs.prepare.accepted_by.Given as goal
+use Rattle.test_homs.proofs.kind.accepted_by.Given as goal
 
 -- whether the elements so far are accepted
 abbrev pub invariant-loop-element : goal.invariant-loop-element
