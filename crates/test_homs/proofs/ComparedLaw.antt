@@ -1,5 +1,6 @@
 -- A test that compares a sum of natural numbers is decided by sums that stop one past the bound.
-use Rattle.std.proofs.Common.{◌≡◌, ℕ, ◌+◌, ◌<◌, min, ℤ, pos, ◌+ℤ◌, ◌≤ℤ◌, nat_abs, List, [], ◌∷◌, map, All, ap, ◌∙◌, arith}
+use Rattle.std.proofs.Common.{◌≡◌, ℕ, ◌+◌, ◌<◌, min, ℤ, pos, ◌+ℤ◌, ◌≤ℤ◌, nat_abs, List, [], ◌∷◌, map, All}
+use Rattle.std.proofs.Common.{ap, ◌∙◌, arith}
 use Rattle.std.proofs.lemmas.Int.{ints}
 use Rattle.std.proofs.lemmas.List.Elements.{All-head, All-tail}
 use Rattle.monoid_kit.specs.CappedSum.{capped_sum}
@@ -45,7 +46,8 @@ stopped-compares Equal t b natural b_natural = grind (arith, ints)
 
 compares-product : {A : Type 0} (f : A → ℤ) (cmp : Cmp) (number : ℤ) (xs : List A)
     → pos 0 ≤ℤ number → All (λ x. pos 0 ≤ℤ f x) xs
-    → compares cmp (pos (product_by 0 (capped_sum (nat_abs number)) (λ x. min (nat_abs (f x)) (nat_abs number + 1)) xs)) number
+    → compares cmp
+    (pos (product_by 0 (capped_sum (nat_abs number)) (λ x. min (nat_abs (f x)) (nat_abs number + 1)) xs)) number
     ≡ compares cmp (sum_of (map f xs)) number
 compares-product f cmp number xs number_natural natural =
     ap (λ n. compares cmp (pos n) number) (product-stopped f (nat_abs number) xs natural)

@@ -25,7 +25,8 @@ use Rattle.test_homs.proofs.RemainderLaw.{remainder-IsHomOf}
 
 -- the same candidates pass
 IsHomOf-same : (rows : PlainRows) (labels : ℕ) (passes others : List Mark → Bool) (hom : Hom)
-    → ((marks : List Mark) → passes marks ≡ others marks) → IsHomOf rows labels passes hom → IsHomOf rows labels others hom
+    → ((marks : List Mark) → passes marks ≡ others marks) → IsHomOf rows labels passes hom
+    → IsHomOf rows labels others hom
 IsHomOf-same rows labels passes others hom same law = record {
   monoid = law.monoid;
   letters = law.letters;
@@ -47,8 +48,8 @@ module _ (checked : PlainChecked) (rows : PlainRows) (within : IsWithinLimits ch
       remainder-IsHomOf checked rows (label_count checked) added modulus residue
       (let below = check_within.1 in omega arith)
 
-  values_natural : (number measure : ℕ) (check : Check) → negative_of_test checked rows number (Sum measure check) ≡ None
-      → AreNatural check (Measure measure)
+  values_natural : (number measure : ℕ) (check : Check)
+      → negative_of_test checked rows number (Sum measure check) ≡ None → AreNatural check (Measure measure)
   values_natural number measure (Compare cmp bound) none = natural-values checked rows number measure none
   values_natural number measure (Mod modulus residue) none = tt
 
@@ -61,7 +62,8 @@ module _ (checked : PlainChecked) (rows : PlainRows) (within : IsWithinLimits ch
       IsTestWithin (length checked.columns) (length checked.labels) (length checked.measures) checked.tables test
 
   abbrev IsHomFor : PlainTest → Type 0
-  IsHomFor test = IsHomOf rows (label_count checked) (λ marks. passes_test checked rows marks test) (hom_of checked test)
+  IsHomFor test =
+      IsHomOf rows (label_count checked) (λ marks. passes_test checked rows marks test) (hom_of checked test)
 
   hom_of-IsHomOf : (number : ℕ) (test : PlainTest) → Within test → negative_of_test checked rows number test ≡ None
       → IsHomFor test

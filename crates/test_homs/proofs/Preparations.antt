@@ -3,8 +3,9 @@ use Rattle.std.proofs.Common.{◌≡◌, ◌*◌, List, All, None, refl, ap, ◌
 use Rattle.std.proofs.lemmas.List.FromFn.{length-map-range_with_len}
 use Rattle.monoid_product.specs.Component.{PlainComponent}
 use Rattle.monoid_product.specs.Product as products
+use Rattle.shape_gen.specs.declared.mark.Mark.{Mark}
 use Rattle.gta_checked.specs.PlainRows.{PlainRows}
-use Rattle.gta_checked.specs.Plain.{PlainChecked}
+use Rattle.gta_checked.specs.Plain.{PlainTest, PlainChecked}
 use Rattle.gta_checked.specs.Within.{IsWithinLimits}
 use Rattle.gta_meaning.specs.InRange.{label_count}
 use Rattle.gta_meaning.specs.Tests.{passes_test}
@@ -34,15 +35,14 @@ module _ (checked : PlainChecked) (rows : PlainRows) where
       → ArePrepared checked rows prepared
   prepared-ArePrepared within none =
       let labels = label_count checked in
+      let passes = λ (test : PlainTest) (marks : List Mark). passes_test checked rows marks test in
       let homs = homs_of-AreHoms checked rows within none in
       record {
         size = key_count-components prepared.parts refl;
         labels = refl;
         count = length-map-range_with_len (key_at (prepared_tests checked rows)) 0 (rows.count * labels);
-        keys = keys-are_keys rows labels (hom_of checked) (λ test marks. passes_test checked rows marks test) checked.tests
-            homs;
+        keys = keys-are_keys rows labels (hom_of checked) passes checked.tests homs;
         accept = length-map-range_with_len (key_accepted (prepared_tests checked rows)) 0
             (products.key_count prepared.parts);
-        decides = joined-decides rows labels (hom_of checked) (λ test marks. passes_test checked rows marks test)
-            checked.tests homs;
+        decides = joined-decides rows labels (hom_of checked) passes checked.tests homs;
       }

@@ -32,7 +32,8 @@ some-factor size (suc keys) key below = omega arith
 -- a digit of a key is an element
 pub digit-below : (tests : List Prepared) (key : ℕ) → key < key_count (components (plains tests))
     → (k : ℕ) (d : Prepared) → k < length tests
-    → get_or (digits (components (plains tests)) key) k 0 < component_size (plain_component (get_or tests k d).component)
+    → get_or (digits (components (plains tests)) key) k 0
+    < component_size (plain_component (get_or tests k d).component)
 digit-below [] key is_key k d below = absurd (omega arith)
 digit-below (t ∷ ts) key is_key zero d below =
     let keys = key_count (components (plains ts)) in
@@ -51,7 +52,8 @@ length-digits : (parts : List PlainComponent) (key : ℕ) → length (digits par
 length-digits [] key = refl
 length-digits (c ∷ cs) key = ap suc (length-digits cs _)
 
-pub length-key_digits : (tests : List Prepared) (key : ℕ) → length (digits (components (plains tests)) key) ≡ length tests
+pub length-key_digits : (tests : List Prepared) (key : ℕ)
+    → length (digits (components (plains tests)) key) ≡ length tests
 length-key_digits tests key = length-digits (components (plains tests)) key ∙ length-components tests
 
 -- whether a test accepts its digit

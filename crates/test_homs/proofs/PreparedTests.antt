@@ -1,5 +1,6 @@
 -- The letters and accepted elements of a test at their places.
-use Rattle.std.proofs.Common.{◌≡◌, ℕ, zero, suc, ◌+◌, ◌*◌, ◌<◌, false, List, [], ◌∷◌, All, length, get_or, ap, ◌∙◌, arith}
+use Rattle.std.proofs.Common.{◌≡◌, ℕ, zero, suc, ◌+◌, ◌*◌, ◌<◌, false, List, [], ◌∷◌, All, length, get_or}
+use Rattle.std.proofs.Common.{ap, ◌∙◌, arith}
 use Rattle.std.specs.List.{flat_map, range_with_len}
 use Rattle.std.proofs.lemmas.List.Elements.{All-append, All-head, All-map, All-tail}
 use Rattle.std.proofs.lemmas.List.FromFn.{get_or-range_with_len, length-range_with_len}
@@ -29,7 +30,8 @@ module _ (hom : Hom) (rows : PlainRows) (labels : ℕ) where
   letter-at row label row_in label_in =
       get_or-pieces (row_letters hom rows labels) labels length-row_letters (range_with_len 0 rows.count) row label 0
       (simp length-range_with_len row_in) label_in
-      ∙ ap (λ r. get_or (row_letters hom rows labels r) label 0) (get_or-range_with_len 0 rows.count row 0 row_in ∙ omega arith)
+      ∙ ap (λ r. get_or (row_letters hom rows labels r) label 0)
+      (get_or-range_with_len 0 rows.count row 0 row_in ∙ omega arith)
       ∙ get_or-map-range_with_len (hom.letter rows row) 0 labels label label 0 label_in (omega arith)
 
   abbrev IsLetter : ℕ → Type 0
@@ -41,7 +43,8 @@ module _ (hom : Hom) (rows : PlainRows) (labels : ℕ) where
     rows-elements [] = λ k d below. absurd (omega arith)
     rows-elements (r ∷ rs) =
         All-append IsLetter (row_letters hom rows labels r) (flat_map (row_letters hom rows labels) rs)
-        (All-map IsLetter (hom.letter rows r) (range_with_len 0 labels) (λ k label below. letters r _)) (rows-elements rs)
+        (All-map IsLetter (hom.letter rows r) (range_with_len 0 labels) (λ k label below. letters r _))
+        (rows-elements rs)
 
     pub letter-below : 0 < component_size hom.component → (place : ℕ)
         → IsLetter (get_or (letters_of hom rows labels) place 0)
@@ -52,4 +55,5 @@ module _ (hom : Hom) (rows : PlainRows) (labels : ℕ) where
 pub accept-at : (hom : Hom) (element : ℕ) → element < component_size hom.component
     → get_or (accepted_by hom) element false ≡ hom.accepts element
 accept-at hom element element_in =
-    get_or-map-range_with_len hom.accepts 0 (component_size hom.component) element element false element_in (omega arith)
+    get_or-map-range_with_len hom.accepts 0 (component_size hom.component) element element false element_in
+    (omega arith)

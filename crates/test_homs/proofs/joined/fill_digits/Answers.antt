@@ -25,4 +25,5 @@ returns-clause-are_digits c =
     let made : c.loop-test.digits.items ≡ digits_at (plains tests) c.args.place =
     map-whole (λ (test : PlainPrepared). slice_index_or test.letters c.args.place 0) plain_prepared tests _
     c.loop-test.test-index _ c.loop-test.invariant c.loop-test-test.false refl in
-    subst (AreDigits (components (plains tests))) (sym made) (digits_at-AreDigits tests c.args.place c.requires.in_range)
+    subst (AreDigits (components (plains tests))) (sym made)
+    (digits_at-AreDigits tests c.args.place c.requires.in_range)

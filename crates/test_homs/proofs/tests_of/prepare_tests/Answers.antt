@@ -5,7 +5,8 @@ use Rattle.test_homs.specs.Homs.{ArePrepared}
 use Rattle.test_homs.specs.Joined.{components, joined}
 use Rattle.test_homs.specs.Negatives.{first_negative}
 use Rattle.test_homs.specs.Prepared.{PlainPrepared, HasLetters, plain_prepared, prepared_tests}
-use Rattle.test_homs.proofs.Preparations.{prepared, prepared_tests-HasLetters, prepared-ArePrepared, key_count-components}
+use Rattle.test_homs.proofs.Preparations.{prepared, prepared_tests-HasLetters, prepared-ArePrepared}
+use Rattle.test_homs.proofs.Preparations.{key_count-components}
 use Rattle.test_homs.proofs.tests_of.prepare_tests.Goals as goal
 
 pub tests_in-requires-clause-letters : goal.tests_in-requires-clause-letters
@@ -32,7 +33,8 @@ returns-in-Ok-clause-prepared c =
     let labels = c.label_count-labels.result in
     let made : c.in_ok-tests_in-in-Ok.field-0 ≡ prepared checked rows =
     c.in_ok-tests_in-in-Ok.ensures
-    ∙ ap (joined (rows.count * labels) labels) (ap (map plain_prepared) c.deref-in-Ok.ensures.value ∙ c.in_ok-tests.ensures)
+    ∙ ap (joined (rows.count * labels) labels)
+    (ap (map plain_prepared) c.deref-in-Ok.ensures.value ∙ c.in_ok-tests.ensures)
     ∙ ap (λ n. joined (rows.count * n) n (prepared_tests checked rows)) c.label_count-labels.ensures in
     subst (ArePrepared checked rows) (sym made)
     (prepared-ArePrepared checked rows c.first_negative.ensures.within none)
