@@ -37,6 +37,7 @@ pub(crate) trait Kind: Drop {
 
     /// Whether an element is accepted. It takes no memory.
     fn accepts(&self, element: u32) -> bool
+        requires within { is_within self.now }
         ensures { result ≡ (hom self.now).accepts element };
 }
 
@@ -104,6 +105,7 @@ fn push_row<K: Kind>(
 }
 
 fn accepted_by<K: Kind>(alloc: Global, kind: &K, size: u32) -> Result<Vec<bool>, AllocError>
+    requires within { K.is_within kind.now }
     ensures { IfOk result (λ accept.
         accept.items ≡ map (K.hom kind.now).accepts (range_with_len 0 size)) }
 {

@@ -16,8 +16,9 @@ use crate::kind::prepare;
 use crate::prepared::Prepared;
 use crate::remainder::Remainder;
 use gta_checked::{Checked, Rows, Test};
-use gta_meaning::label_count;
+use gta_meaning::{ElementSet, label_count};
 use gta_spec::Check;
+use monoid_kit::Monoid;
 use std::alloc::{AllocError, Global};
 
 /// All tests of a specification. It takes memory for them.
@@ -61,11 +62,13 @@ fn prepared_test(
             accept,
         } => {
             let table = &checked.tables()[*table as usize].monoid;
+            let accepted = &ElementSet::of(alloc, table.size(), accept)?;
             let fold = Fold {
                 rows,
                 table,
                 picks,
                 accept,
+                accepted,
             };
             prepare(alloc, &fold, rows.count, label_count(checked))
         }

@@ -10,5 +10,5 @@ returns-clause-is_element c =
     let table = test.table.now in
     let unit_in : c.unit.result < table.size = omega (arith, c.unit.ensures, table.lawful.table.unit_is_element) in
     subst (λ (element : ℕ). element < table.size) (sym c.picked.ensures)
-    (picked-is_element (plain_rows test.rows.now) test.rows.now.columns c.requires.within.0 table.size c.unit.result
-    c.args.row c.args.label (map plain_pick test.picks.now) unit_in c.requires.within.1)
+    (picked-is_element (plain_rows test.rows.now) test.rows.now.columns c.requires.within.0.0 table.size c.unit.result
+    c.args.row c.args.label (map plain_pick test.picks.now) unit_in c.requires.within.0.1)
