@@ -25,7 +25,7 @@ impl Model for ElementSet {
 
 impl ElementSet {
     /// The set of a list, in which elements may repeat. It takes memory for the flags.
-    fn of(alloc: Global, size: u32, elements: &[u32]) -> Result<ElementSet, AllocError>
+    pub fn of(alloc: Global, size: u32, elements: &[u32]) -> Result<ElementSet, AllocError>
         requires within { All (λ element. element < size) elements.now }
         ensures { IfOk result (HasElements elements.now) }
     {

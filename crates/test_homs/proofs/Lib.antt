@@ -1,6 +1,12 @@
 pub mod Firsts
 pub mod Pieces
-pub mod Totals
-pub mod Parts
-pub mod Keys
+pub mod Lists
+pub mod PreparedList
+pub mod AddedTotal
+pub mod ComparedLaw
+pub mod RemainderLaw
+pub mod FoldLaw
+pub mod KindLaws
+pub mod PreparedTests
+pub mod JoinedTests
 pub mod Preparations

@@ -1,6 +1,12 @@
+pub mod Hom
+pub mod Added
+pub mod Compared
+pub mod Remainder
+pub mod Fold
+pub mod Kinds
 pub mod Sizes
-pub mod Components
-pub mod Letters
 pub mod Homs
+pub mod Prepared
+pub mod Joined
 pub mod Negatives
 pub mod Ends

@@ -1,13 +1,18 @@
 //! Tests as letters and keys: the product of a candidate's letters decides whether it passes.
-//! specs/Homs.antt has keys and what they decide, specs/Components.antt the monoids of the tests,
-//! specs/Letters.antt their letters and accepted keys, specs/Sizes.antt how many keys there are, and
-//! specs/Negatives.antt the first value that a capped sum can't take.
+//! specs/Homs.antt has keys and what they decide, specs/Hom.antt what a test is, specs/Kinds.antt the kinds of tests,
+//! specs/Joined.antt the keys of all tests together, specs/Sizes.antt how many keys there are, and
+//! specs/Negatives.antt the first value that a compared sum can't take.
 #![tactic(auto)]
 
-mod accepts;
-mod components;
-mod letters;
+mod added;
+mod compared;
+mod fold;
+mod joined;
+mod kind;
+mod kinds;
 mod negatives;
+mod prepared;
+mod remainder;
 mod tests_of;
 
 pub use negatives::{Negative, first_negative};

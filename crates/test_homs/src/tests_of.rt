@@ -1,24 +1,24 @@
 //! The tests of a job as letters for its rows and labels, and the keys that are accepted.
 
 ghost use Rattle.std.specs.Prelude.{◌≡◌, ◌≤◌, ◌<◌, ◌+◌, ◌*◌, length, None, slice_index_or};
-ghost use Rattle.std.specs.Prelude.{IfOk, IfErr, OnOk};
+ghost use Rattle.std.specs.Prelude.{All, map, IfOk, IfErr, OnOk};
 ghost use Rattle.gta_checked.specs.PlainRows.{plain_rows};
 ghost use Rattle.gta_meaning.specs.InRange.{HasColumnsOf};
 ghost use Rattle.monoid_product.specs.ProductOf.{plain_parts};
 ghost use Rattle.test_homs.specs.Homs as homs;
 ghost use Rattle.test_homs.specs.Homs.{ArePrepared};
-ghost use Rattle.test_homs.specs.Components.{test_parts};
-ghost use Rattle.test_homs.specs.Letters.{prepared};
+ghost use Rattle.test_homs.specs.Joined.{components, joined};
+ghost use Rattle.test_homs.specs.Prepared.{plain_prepared, HasLetters};
 ghost use Rattle.test_homs.specs.Negatives.{first_negative};
 ghost use Rattle.test_homs.specs.Sizes.{key_count};
 ghost use Rattle.test_homs.specs.declared.tests_of.ValueFault.TheVariants.{Memory};
 ghost use Rattle.test_homs.specs.Ends.{IsEndOf};
-ghost use Rattle.monoid_product.specs.declared.product.TheConstants.{KEY_LIMIT};
+ghost use Rattle.monoid_product.specs.declared.product.TheConstants.{KEY_LIMIT, PART_LIMIT};
 
-use crate::accepts::accepted_keys;
-use crate::components::test_parts;
-use crate::letters::all_letters;
+use crate::joined::{accepted_keys, components, keys};
+use crate::kinds::prepared_tests;
 use crate::negatives::first_negative;
+use crate::prepared::Prepared;
 use gta_checked::{Checked, Rows};
 use gta_meaning::label_count;
 use monoid_product::{Product, TooLarge, product_of};
@@ -140,27 +140,34 @@ pub fn prepare_tests(alloc: Global, checked: &Checked, rows: &Rows) -> Result<Te
             value: negative.value,
         });
     }
-    match product_of(test_parts(alloc, checked)?) {
-        Ok(product) => Ok(tests_in(alloc, checked, rows, product)?),
+    let tests = prepared_tests(alloc, checked, rows)?;
+    match product_of(components(alloc, &tests)?) {
+        Ok(product) => {
+            let labels = label_count(checked);
+            let count = rows.count as usize * labels as usize;
+            Ok(tests_in(alloc, product, &tests, count, labels)?)
+        }
         Err(TooLarge { keys }) => Err(ValueFault::TooManyKeys { keys }),
     }
 }
 
 fn tests_in(
     alloc: Global,
-    checked: &Checked,
-    rows: &Rows,
     product: Product,
+    tests: &[Prepared],
+    count: usize,
+    labels: u32,
 ) -> Result<Tests, AllocError>
-    requires columns { HasColumnsOf checked.now (plain_rows rows.now) }
-    requires product { plain_parts product ≡ test_parts checked.now }
-    ensures { IfOk result (λ tests. tests ≡ prepared checked.now (plain_rows rows.now)) }
+    requires few { length tests.now ≤ PART_LIMIT }
+    requires product { plain_parts product ≡ components (map plain_prepared tests.now) }
+    requires letters { All (HasLetters count) (map plain_prepared tests.now) }
+    ensures { IfOk result (λ made. made ≡ joined count labels (map plain_prepared tests.now)) }
 {
-    let letters = all_letters(alloc, checked, rows, &product)?;
-    let accept = accepted_keys(alloc, checked, &product)?;
+    let letters = keys(alloc, &product, tests, count)?;
+    let accept = accepted_keys(alloc, &product, tests)?;
     Ok(Tests {
         product,
-        labels: label_count(checked),
+        labels,
         letters,
         accept,
     })

@@ -1,0 +1,94 @@
+//! Tests of all kinds put together: keys with a digit for each of them, and which keys are accepted.
+//! specs/Joined.antt has both.
+
+ghost use Rattle.std.specs.Prelude.{◌≡◌, ◌≤◌, ◌<◌, All, length, map, IfOk, OnOk};
+ghost use Rattle.std.specs.List.{range_with_len};
+ghost use Rattle.monoid_product.specs.ComponentOf.{plain_components};
+ghost use Rattle.monoid_product.specs.Product.{AreDigits, key_count};
+ghost use Rattle.monoid_product.specs.ProductOf.{plain_parts};
+ghost use Rattle.monoid_product.specs.declared.product.TheConstants.{PART_LIMIT};
+ghost use Rattle.test_homs.specs.Joined as joined;
+ghost use Rattle.test_homs.specs.Prepared.{plain_prepared, HasLetters};
+
+use crate::prepared::Prepared;
+use monoid_kit::Monoid;
+use monoid_product::{Component, Product};
+use std::alloc::{AllocError, Global};
+
+/// The monoids of the tests. It takes memory for the list and for tables.
+pub(crate) fn components(alloc: Global, tests: &[Prepared]) -> Result<Vec<Component>, AllocError>
+    ensures { IfOk result (λ parts.
+        plain_components parts.items ≡ joined.components (map plain_prepared tests.now)) }
+{
+    let mut parts = Vec::with_capacity(alloc, tests.len())?;
+    for test in tests {
+        parts.push(test.component.twin(alloc)?)?;
+    }
+    Ok(parts)
+}
+
+/// The key at each of so many places. It takes memory for them.
+pub(crate) fn keys(
+    alloc: Global,
+    product: &Product,
+    tests: &[Prepared],
+    count: usize,
+) -> Result<Vec<u32>, AllocError>
+    requires product { plain_parts product.now ≡ joined.components (map plain_prepared tests.now) }
+    requires letters { All (HasLetters count) (map plain_prepared tests.now) }
+    ensures { IfOk result (λ keys.
+        keys.items ≡ map (joined.key_at (map plain_prepared tests.now)) (range_with_len 0 count)) }
+{
+    let mut keys = Vec::with_capacity(alloc, count)?;
+    let mut digits = Vec::with_capacity(alloc, tests.len())?;
+    for place in 0..count {
+        fill_digits(&mut digits, tests, place)?;
+        keys.push(product.key_of(&digits))?;
+    }
+    Ok(keys)
+}
+
+/// Puts the letters at a place, one of each test, in place of the digits.
+fn fill_digits(digits: &mut Vec<u32>, tests: &[Prepared], place: usize) -> Result<(), AllocError>
+    requires in_range { All (λ test. place < length test.letters) (map plain_prepared tests.now) }
+    ensures digits { OnOk result (digits.new.items ≡ joined.digits_at (map plain_prepared tests.now) place) }
+    ensures are_digits { OnOk result
+        (AreDigits (joined.components (map plain_prepared tests.now)) digits.new.items) }
+{
+    digits.clear();
+    for test in tests {
+        digits.push(test.letter(place))?;
+    }
+    Ok(())
+}
+
+/// Which keys are accepted: those of which each test accepts its digit. It takes memory for them.
+pub(crate) fn accepted_keys(
+    alloc: Global,
+    product: &Product,
+    tests: &[Prepared],
+) -> Result<Vec<bool>, AllocError>
+    requires few { length tests.now ≤ PART_LIMIT }
+    requires product { plain_parts product.now ≡ joined.components (map plain_prepared tests.now) }
+    ensures { IfOk result (λ accept. accept.items ≡ joined.accepted_keys (map plain_prepared tests.now)) }
+{
+    let mut accept = Vec::with_capacity(alloc, product.size() as usize)?;
+    for key in 0..product.size() {
+        accept.push(key_accepted(product, tests, key))?;
+    }
+    Ok(accept)
+}
+
+fn key_accepted(product: &Product, tests: &[Prepared], key: u32) -> bool
+    requires few { length tests.now ≤ PART_LIMIT }
+    requires product { plain_parts product.now ≡ joined.components (map plain_prepared tests.now) }
+    requires is_key { key < key_count (plain_parts product.now) }
+    ensures { result ≡ joined.key_accepted (map plain_prepared tests.now) key }
+{
+    for k in 0..tests.len() {
+        if !tests[k].accepts(product.digit(key, k as u32)) {
+            return false;
+        }
+    }
+    true
+}
