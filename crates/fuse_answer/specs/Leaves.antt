@@ -1,6 +1,6 @@
 -- How many rows a leaf has. No answer depends on it. A join takes the square of the number of keys, so that leaves of fewer
 -- rows than keys don't pay; small jobs keep the leaf that was asked for.
-use Rattle.std.specs.Prelude.{ℕ, ◌*◌, min, max, nat_lt, Bool, ◌||◌, if◌then◌else◌}
+use Rattle.std.specs.Prelude.{ℕ, ◌*◌, min, max, nat_lt, if◌then◌else◌}
 use Rattle.std.specs.Int.{div_ceil}
 use Rattle.fuse_answer.specs.declared.crew.Crew.{Crew}
 use Rattle.fuse_answer.specs.declared.leaves.TheConstants.{DENSE_KEYS, SMALL_ROWS, LIST_ROWS}

@@ -11,8 +11,8 @@ use Rattle.fuse_answer.specs.Weights.{goal_weight}
 use Rattle.fuse_answer.proofs.Aggregates.{weighed-entries}
 use Rattle.fuse_answer.proofs.answers.best_kept.Goals as goal
 
-pub returns-in_ok-firsts : goal.returns-in_ok-firsts
-returns-in_ok-firsts g c = λ measure is.
+pub returns : goal.returns
+returns g c = λ measure is.
     let checked = c.args.checked.now in
     let rows = plain_rows c.args.rows.now in
     subst (λ v. IfOk c.listed.result (λ entries. entries ≡ v))

@@ -1,4 +1,4 @@
-use Rattle.std.proofs.Common.{◌≡◌, ◌≤◌, ◌<◌, ◌*◌, ◌∙◌, length, IfOk, ap, sym, subst}
+use Rattle.std.proofs.Common.{◌≤◌, ◌<◌, ◌*◌, ◌∙◌, length, ap, sym, subst}
 use Rattle.std.proofs.lemmas.List.FromFn.{length-map-range_with_len}
 use Rattle.monoid_kit.specs.Items.{AllElements}
 use Rattle.semiring_kit.specs.Semiring.{IsGood, weight_bound}

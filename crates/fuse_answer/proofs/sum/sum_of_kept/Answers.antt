@@ -1,5 +1,3 @@
-use Rattle.std.proofs.Common.{sym, ap, ◌∙◌, ◌≡◌}
-use Rattle.monoid_product.specs.ProductOf.{plain_parts}
 use Rattle.fuse_answer.proofs.sum.sum_of_kept.Goals as goal
 
 pub sum_by_keys-requires-clause-decide : goal.sum_by_keys-requires-clause-decide
