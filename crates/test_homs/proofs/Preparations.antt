@@ -15,7 +15,7 @@ use Rattle.test_homs.specs.Kinds.{hom_of}
 use Rattle.test_homs.specs.Negatives.{first_negative}
 use Rattle.test_homs.specs.Prepared.{HasLetters, prepared_tests}
 use Rattle.test_homs.specs.Sizes.{key_count}
-use Rattle.test_homs.proofs.JoinedTests.{HasLetters-map, joined-decides, key_count-parts, keys-are_keys}
+use Rattle.test_homs.proofs.Keys.{HasLetters-map, joined-decides, key_count-parts, keys-are_keys}
 use Rattle.test_homs.proofs.KindLaws.{homs_of-AreHoms}
 
 module _ (checked : PlainChecked) (rows : PlainRows) where

@@ -4,7 +4,7 @@ use Rattle.monoid_product.specs.Product.{AreDigits}
 use Rattle.test_homs.specs.Joined.{components, digits_at}
 use Rattle.test_homs.specs.Prepared.{PlainPrepared, plain_prepared}
 use Rattle.test_homs.proofs.Lists.{map-whole}
-use Rattle.test_homs.proofs.PreparedList.{plains, digits_at-AreDigits}
+use Rattle.test_homs.proofs.Digits.{plains, digits_at-AreDigits}
 use Rattle.test_homs.proofs.joined.fill_digits.Goals as goal
 
 pub letter-requires : goal.letter-requires

@@ -4,8 +4,8 @@ use Rattle.monoid_product.specs.ComponentOf.{plain_component}
 use Rattle.monoid_product.specs.Product.{digits, key_count}
 use Rattle.test_homs.specs.declared.prepared.Prepared.{Prepared}
 use Rattle.test_homs.specs.Joined.{components}
-use Rattle.test_homs.proofs.PreparedList.{plains, accepts_at, all_accept-all, all_accept-fails}
-use Rattle.test_homs.proofs.PreparedList.{digit-below, length-key_digits}
+use Rattle.test_homs.proofs.Digits.{plains, accepts_at, all_accept-all, all_accept-fails}
+use Rattle.test_homs.proofs.Digits.{digit-below, length-key_digits}
 use Rattle.test_homs.proofs.joined.key_accepted.Goals as goal
 
 pub accepts-requires : goal.accepts-requires

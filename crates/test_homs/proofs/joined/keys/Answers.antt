@@ -4,7 +4,7 @@ use Rattle.monoid_product.specs.Product.{key_of}
 use Rattle.test_homs.specs.Joined.{components, key_at}
 use Rattle.test_homs.specs.Prepared.{PlainPrepared, HasLetters}
 use Rattle.test_homs.proofs.Pieces.{items-more}
-use Rattle.test_homs.proofs.PreparedList.{plains}
+use Rattle.test_homs.proofs.Digits.{plains}
 use Rattle.test_homs.proofs.joined.keys.Goals as goal
 
 pub fill_digits-requires : goal.fill_digits-requires

@@ -22,7 +22,7 @@ use Rattle.test_homs.specs.Homs.{PlainTests, accepts}
 use Rattle.test_homs.specs.Homs as homs
 use Rattle.test_homs.specs.Joined.{components, digits_at, key_at, all_accept, key_accepted, joined}
 use Rattle.test_homs.specs.Prepared.{PlainPrepared, HasLetters, prepared_of}
-use Rattle.test_homs.proofs.PreparedTests.{letter-at, letter-below, length-letters_of, accept-at}
+use Rattle.test_homs.proofs.Letters.{letter-at, letter-below, length-letters_of, accept-at}
 
 All-IsIn : {A : Type 0} (P : A → Type 0) (xs : List A) → All P xs → (x : A) → IsIn x xs → P x
 All-IsIn P [] all x x_in = absurd x_in
