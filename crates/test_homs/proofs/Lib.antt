@@ -1,12 +1,12 @@
 pub mod Firsts
-pub mod Pieces
 pub mod Lists
-pub mod PreparedList
+pub mod Pieces
 pub mod AddedTotal
 pub mod ComparedLaw
 pub mod RemainderLaw
 pub mod FoldLaw
 pub mod KindLaws
-pub mod PreparedTests
-pub mod JoinedTests
+pub mod Letters
+pub mod Digits
+pub mod Keys
 pub mod Preparations

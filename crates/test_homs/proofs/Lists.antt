@@ -1,4 +1,4 @@
--- Lists that loops made of the items of others.
+-- Lists that loops make of the items of others.
 use Rattle.std.proofs.Common.{◌≡◌, ℕ, ◌≤◌, List, [], ◌∷◌, map, length, take, refl, sym, ap, ◌∙◌}
 use Rattle.std.proofs.lemmas.List.{take_all}
 

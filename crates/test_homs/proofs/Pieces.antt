@@ -28,7 +28,7 @@ module _ {A : Type 0} (f : ℕ → List A) (width : ℕ) (wide : (x : ℕ) → l
       ∙ get_or-append-add (f x) (flat_map f xs) (i * width + j) d
       ∙ get_or-pieces xs i j d (omega arith) j_in
 
--- one item more, and the letters of one row more
+-- one item more, and one piece more
 pub items-more : {A : Type 0} (f : ℕ → A) (front so_far after : List A) (n : ℕ) (x : A)
     → so_far ≡ front ++ map f (range_with_len 0 n) → after ≡ so_far ++ x ∷ [] → x ≡ f n
     → after ≡ front ++ map f (range_with_len 0 (n + 1))
@@ -46,8 +46,10 @@ range-more a n =
     sym (map-same (range_with_len a (n + 1))) ∙ map-range_with_len_more (λ (x : ℕ). x) a n (a + n) refl
     ∙ ap (λ l. l ++ (a + n) ∷ []) (map-same (range_with_len a n))
 
-pub rows-more : {A : Type 0} (f : ℕ → List A) (n : ℕ)
-    → flat_map f (range_with_len 0 (n + 1)) ≡ flat_map f (range_with_len 0 n) ++ f n
-rows-more f n =
-    ap (flat_map f) (range-more 0 n) ∙ flat_map-append f (range_with_len 0 n) ((0 + n) ∷ [])
-    ∙ ap (λ l. flat_map f (range_with_len 0 n) ++ l) (append-nil (f (0 + n)) ∙ ap f (omega arith))
+pub pieces-more : {A : Type 0} (f : ℕ → List A) (before after : List A) (n : ℕ)
+    → before ≡ flat_map f (range_with_len 0 n) → after ≡ before ++ f n → after ≡ flat_map f (range_with_len 0 (n + 1))
+pieces-more f before after n is_before is_after =
+    is_after ∙ ap (λ l. l ++ f n) is_before
+    ∙ ap (λ l. flat_map f (range_with_len 0 n) ++ l) (ap f (omega arith) ∙ sym (append-nil (f (0 + n))))
+    ∙ sym (flat_map-append f (range_with_len 0 n) ((0 + n) ∷ []))
+    ∙ ap (flat_map f) (sym (range-more 0 n))

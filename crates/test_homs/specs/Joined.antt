@@ -1,8 +1,10 @@
 -- Tests put together: keys with a digit for each of them.
-use Rattle.std.specs.Prelude.{ℕ, Bool, true, false, ◌&&◌, List, ◌∷◌, map, slice_index_or}
+use Rattle.std.specs.Prelude.{◌≡◌, ℕ, ◌≤◌, Bool, true, false, ◌&&◌, List, ◌∷◌}
+use Rattle.std.specs.Prelude.{All, length, map, slice_index_or}
 use Rattle.std.specs.List.{range_with_len}
 use Rattle.monoid_product.specs.Component.{PlainComponent}
-use Rattle.monoid_product.specs.Product.{key_count, key_of, digits}
+use Rattle.monoid_product.specs.Product.{AreDigits, key_count, key_of, digits}
+use Rattle.monoid_product.specs.declared.product.TheConstants.{PART_LIMIT}
 use Rattle.test_homs.specs.Homs.{PlainTests}
 use Rattle.test_homs.specs.Prepared.{PlainPrepared}
 
@@ -13,6 +15,16 @@ components tests = map (λ test. test.component) tests
 -- the letter that each test has at a place
 abbrev pub digits_at : List PlainPrepared → ℕ → List ℕ
 digits_at tests place = map (λ test. slice_index_or test.letters place 0) tests
+
+-- so many letters of each
+abbrev pub HasLetters : ℕ → PlainPrepared → Type 0
+HasLetters count test = length test.letters ≡ count
+
+-- few tests, with so many letters each, all of them elements
+pub record AreJoinable (count : ℕ) (tests : List PlainPrepared) : Type 0 where
+  pub few : length tests ≤ PART_LIMIT
+  pub letters : All (HasLetters count) tests
+  pub digits : (place : ℕ) → AreDigits (components tests) (digits_at tests place)
 
 -- the key of these letters
 abbrev pub key_at : List PlainPrepared → ℕ → ℕ

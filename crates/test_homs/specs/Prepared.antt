@@ -1,5 +1,5 @@
 -- Tests with their letters and accepted elements in lists.
-use Rattle.std.specs.Prelude.{◌≡◌, ℕ, Bool, List, map, length}
+use Rattle.std.specs.Prelude.{ℕ, Bool, List, map}
 use Rattle.std.specs.List.{flat_map, range_with_len}
 use Rattle.gta_checked.specs.PlainRows.{PlainRows}
 use Rattle.gta_checked.specs.Plain.{PlainTest, PlainChecked}
@@ -40,10 +40,6 @@ prepared_of rows labels hom = record {
   letters = letters_of hom rows labels;
   accept = accepted_by hom;
 }
-
--- so many letters
-abbrev pub HasLetters : ℕ → PlainPrepared → Type 0
-HasLetters count test = length test.letters ≡ count
 
 -- a test of a specification
 abbrev pub prepared_test : PlainChecked → PlainRows → PlainTest → PlainPrepared

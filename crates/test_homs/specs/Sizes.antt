@@ -5,7 +5,7 @@ use Rattle.monoid_product.specs.Component.{component_size}
 use Rattle.gta_checked.specs.Plain.{PlainTest, PlainChecked}
 use Rattle.test_homs.specs.Kinds.{hom_of}
 
--- the elements of a test's monoid: the numbers up to one past the bound, the remainders, or those of the table
+-- how many elements a test's monoid has
 abbrev pub test_size : PlainChecked → PlainTest → ℕ
 test_size checked test = component_size (hom_of checked test).component
 

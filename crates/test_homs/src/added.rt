@@ -1,9 +1,8 @@
 //! What is added up over a candidate's marks. specs/Added.antt says what that is.
 
-ghost use Rattle.std.specs.Prelude.{◌≡◌, ◌<◌, ◌≤◌, length, nat_abs};
+ghost use Rattle.std.specs.Prelude.{◌≡◌, ◌<◌, length};
 ghost use Rattle.gta_checked.specs.PlainRows.{plain_rows};
 ghost use Rattle.gta_meaning.specs.InRange.{HasColumnsOf};
-ghost use Rattle.gta_meaning.specs.declared.values.TheConstants.{VALUE_BOUND};
 ghost use Rattle.test_homs.specs.Added.{added_at, IsAddedWithin};
 
 use gta_checked::{Checked, Rows};
@@ -21,8 +20,7 @@ pub(crate) fn added_at(checked: &Checked, rows: &Rows, added: Added, row: u32, l
     requires columns { HasColumnsOf checked.now (plain_rows rows.now) }
     requires within { IsAddedWithin (length checked.now.measures) added }
     requires row_in_range { row < rows.now.count }
-    ensures value { result ≡ added_at checked.now (plain_rows rows.now) added row label }
-    ensures bounded { nat_abs result ≤ VALUE_BOUND }
+    ensures { result ≡ added_at checked.now (plain_rows rows.now) added row label }
 {
     match added {
         Added::Measure(measure) => value_of(checked, rows, measure, row, label),

@@ -4,11 +4,11 @@
 ghost use Rattle.std.specs.Prelude.{◌≡◌, ◌≤◌, ◌<◌, All, length, map, IfOk, OnOk};
 ghost use Rattle.std.specs.List.{range_with_len};
 ghost use Rattle.monoid_product.specs.ComponentOf.{plain_components};
-ghost use Rattle.monoid_product.specs.Product.{AreDigits, key_count};
+ghost use Rattle.monoid_product.specs.Product.{key_count};
 ghost use Rattle.monoid_product.specs.ProductOf.{plain_parts};
 ghost use Rattle.monoid_product.specs.declared.product.TheConstants.{PART_LIMIT};
 ghost use Rattle.test_homs.specs.Joined as joined;
-ghost use Rattle.test_homs.specs.Prepared.{plain_prepared, HasLetters};
+ghost use Rattle.test_homs.specs.Prepared.{plain_prepared};
 
 use crate::prepared::Prepared;
 use monoid_kit::Monoid;
@@ -34,8 +34,8 @@ pub(crate) fn keys(
     tests: &[Prepared],
     count: usize,
 ) -> Result<Vec<u32>, AllocError>
+    requires joinable { joined.AreJoinable count (map plain_prepared tests.now) }
     requires product { plain_parts product.now ≡ joined.components (map plain_prepared tests.now) }
-    requires letters { All (HasLetters count) (map plain_prepared tests.now) }
     ensures { IfOk result (λ keys.
         keys.items ≡ map (joined.key_at (map plain_prepared tests.now)) (range_with_len 0 count)) }
 {
@@ -51,9 +51,7 @@ pub(crate) fn keys(
 /// Puts the letters at a place, one of each test, in place of the digits.
 fn fill_digits(digits: &mut Vec<u32>, tests: &[Prepared], place: usize) -> Result<(), AllocError>
     requires in_range { All (λ test. place < length test.letters) (map plain_prepared tests.now) }
-    ensures digits { OnOk result (digits.new.items ≡ joined.digits_at (map plain_prepared tests.now) place) }
-    ensures are_digits { OnOk result
-        (AreDigits (joined.components (map plain_prepared tests.now)) digits.new.items) }
+    ensures { OnOk result (digits.new.items ≡ joined.digits_at (map plain_prepared tests.now) place) }
 {
     digits.clear();
     for test in tests {

@@ -1,10 +1,9 @@
 //! What a kind of test is: a monoid, letters, and the elements that are accepted. specs/Hom.antt has its meaning
 //! and its law. Of a test of any kind its letters and accepted elements are listed; specs/Prepared.antt has the lists.
 
-ghost use Rattle.std.specs.Prelude.{◌≡◌, ◌<◌, ◌++◌, All, map, IfOk, OnOk};
+ghost use Rattle.std.specs.Prelude.{◌≡◌, ◌<◌, ◌++◌, map, IfOk, OnOk};
 ghost use Rattle.std.specs.List.{range_with_len};
 ghost use Rattle.gta_checked.specs.PlainRows.{PlainRows};
-ghost use Rattle.monoid_product.specs.Component.{component_size};
 ghost use Rattle.monoid_product.specs.ComponentOf.{plain_component};
 ghost use Rattle.test_homs.specs.Hom.{Hom};
 ghost use Rattle.test_homs.specs.Prepared as plain;
@@ -32,8 +31,7 @@ pub(crate) trait Kind: Drop {
     fn letter(&self, row: u32, label: u32) -> u32
         requires within { is_within self.now }
         requires row_in_range { row < (rows self.now).count }
-        ensures letter { result ≡ (hom self.now).letter (rows self.now) row label }
-        ensures is_element { result < component_size (hom self.now).component };
+        ensures { result ≡ (hom self.now).letter (rows self.now) row label };
 
     /// Whether an element is accepted. It takes no memory.
     fn accepts(&self, element: u32) -> bool
@@ -71,10 +69,8 @@ fn letters_of<K: Kind>(
 ) -> Result<Vec<u32>, AllocError>
     requires within { K.is_within kind.now }
     requires rows { rows ≡ (K.rows kind.now).count }
-    ensures letters { IfOk result (λ letters.
+    ensures { IfOk result (λ letters.
         letters.items ≡ plain.letters_of (K.hom kind.now) (K.rows kind.now) labels) }
-    ensures elements { IfOk result (λ letters.
-        All (λ letter. letter < component_size (K.hom kind.now).component) letters.items) }
 {
     let mut letters = Vec::with_capacity(alloc, rows as usize * labels as usize)?;
     for row in 0..rows {
@@ -92,11 +88,8 @@ fn push_row<K: Kind>(
 ) -> Result<(), AllocError>
     requires within { K.is_within kind.now }
     requires row_in_range { row < (K.rows kind.now).count }
-    requires elements { All (λ letter. letter < component_size (K.hom kind.now).component) letters.old.items }
-    ensures letters { OnOk result (letters.new.items
+    ensures { OnOk result (letters.new.items
         ≡ letters.old.items ++ plain.row_letters (K.hom kind.now) (K.rows kind.now) labels row) }
-    ensures elements { OnOk result
-        (All (λ letter. letter < component_size (K.hom kind.now).component) letters.new.items) }
 {
     for label in 0..labels {
         letters.push(kind.letter(row, label))?;

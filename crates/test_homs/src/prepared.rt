@@ -1,8 +1,6 @@
 //! A test of any kind with its letters and accepted elements in lists. specs/Prepared.antt has what they are.
 
-ghost use Rattle.std.specs.Prelude.{◌≡◌, ◌<◌, All, length, false, slice_index_or};
-ghost use Rattle.monoid_product.specs.Component.{component_size};
-ghost use Rattle.monoid_product.specs.ComponentOf.{plain_component};
+ghost use Rattle.std.specs.Prelude.{◌≡◌, ◌<◌, length, false, slice_index_or};
 
 use monoid_product::Component;
 
@@ -12,8 +10,6 @@ pub(crate) struct Prepared {
     pub component: Component,
     pub letters: Vec<u32>,
     pub accept: Vec<bool>,
-    ghost elements: { All (λ letter. letter < component_size (plain_component component)) letters.items },
-    ghost flags: { length accept.items ≡ component_size (plain_component component) },
 }
 
 impl Prepared {
@@ -25,11 +21,10 @@ impl Prepared {
         self.letters[place]
     }
 
-    /// Whether an element is accepted.
+    /// Whether an element is accepted; what has no flag is not.
     pub(crate) fn accepts(&self, element: u32) -> bool
-        requires is_element { element < component_size (plain_component self.now.component) }
         ensures { result ≡ slice_index_or self.now.accept.items element false }
     {
-        self.accept[element as usize]
+        self.accept.get(element as usize).copied().unwrap_or(false)
     }
 }

@@ -1,19 +1,19 @@
 //! The tests of a job as letters for its rows and labels, and the keys that are accepted.
 
 ghost use Rattle.std.specs.Prelude.{◌≡◌, ◌≤◌, ◌<◌, ◌+◌, ◌*◌, length, None, slice_index_or};
-ghost use Rattle.std.specs.Prelude.{All, map, IfOk, IfErr, OnOk};
+ghost use Rattle.std.specs.Prelude.{map, IfOk, IfErr, OnOk};
 ghost use Rattle.gta_checked.specs.PlainRows.{plain_rows};
 ghost use Rattle.gta_meaning.specs.InRange.{HasColumnsOf};
 ghost use Rattle.monoid_product.specs.ProductOf.{plain_parts};
 ghost use Rattle.test_homs.specs.Homs as homs;
 ghost use Rattle.test_homs.specs.Homs.{ArePrepared};
-ghost use Rattle.test_homs.specs.Joined.{components, joined};
-ghost use Rattle.test_homs.specs.Prepared.{plain_prepared, HasLetters};
+ghost use Rattle.test_homs.specs.Joined.{AreJoinable, components, joined};
+ghost use Rattle.test_homs.specs.Prepared.{plain_prepared};
 ghost use Rattle.test_homs.specs.Negatives.{first_negative};
 ghost use Rattle.test_homs.specs.Sizes.{key_count};
 ghost use Rattle.test_homs.specs.declared.tests_of.ValueFault.TheVariants.{Memory};
 ghost use Rattle.test_homs.specs.Ends.{IsEndOf};
-ghost use Rattle.monoid_product.specs.declared.product.TheConstants.{KEY_LIMIT, PART_LIMIT};
+ghost use Rattle.monoid_product.specs.declared.product.TheConstants.{KEY_LIMIT};
 
 use crate::joined::{accepted_keys, components, keys};
 use crate::kinds::prepared_tests;
@@ -158,9 +158,8 @@ fn tests_in(
     count: usize,
     labels: u32,
 ) -> Result<Tests, AllocError>
-    requires few { length tests.now ≤ PART_LIMIT }
+    requires joinable { AreJoinable count (map plain_prepared tests.now) }
     requires product { plain_parts product ≡ components (map plain_prepared tests.now) }
-    requires letters { All (HasLetters count) (map plain_prepared tests.now) }
     ensures { IfOk result (λ made. made ≡ joined count labels (map plain_prepared tests.now)) }
 {
     let letters = keys(alloc, &product, tests, count)?;

@@ -1,7 +1,7 @@
 use Rattle.std.proofs.Common.{[]}
 use Rattle.test_homs.specs.Joined.{key_accepted}
 use Rattle.test_homs.proofs.Pieces.{items-more}
-use Rattle.test_homs.proofs.PreparedList.{plains}
+use Rattle.test_homs.proofs.Digits.{plains}
 use Rattle.test_homs.proofs.joined.accepted_keys.Goals as goal
 
 pub loop-key-preserved : goal.loop-key-preserved

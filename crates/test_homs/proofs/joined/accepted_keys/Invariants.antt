@@ -1,7 +1,7 @@
 use Rattle.std.proofs.Common.{◌≡◌, map}
 use Rattle.std.specs.List.{range_with_len}
 use Rattle.test_homs.specs.Joined.{key_accepted}
-use Rattle.test_homs.proofs.PreparedList.{plains}
+use Rattle.test_homs.proofs.Digits.{plains}
 use Rattle.test_homs.proofs.joined.accepted_keys.Given as goal
 
 -- what the keys so far are

@@ -1,10 +1,8 @@
-use Rattle.std.proofs.Common.{◌≡◌, ◌<◌, length, slice_index_or, refl, sym, subst}
+use Rattle.std.proofs.Common.{◌<◌, length, slice_index_or, refl}
 use Rattle.gta_meaning.proofs.Parts.{item-within}
-use Rattle.monoid_product.specs.Product.{AreDigits}
-use Rattle.test_homs.specs.Joined.{components, digits_at}
 use Rattle.test_homs.specs.Prepared.{PlainPrepared, plain_prepared}
 use Rattle.test_homs.proofs.Lists.{map-whole}
-use Rattle.test_homs.proofs.PreparedList.{plains, digits_at-AreDigits}
+use Rattle.test_homs.proofs.Digits.{plains}
 use Rattle.test_homs.proofs.joined.fill_digits.Goals as goal
 
 pub letter-requires : goal.letter-requires
@@ -14,16 +12,7 @@ letter-requires c = record {
       c.loop-test-test.true c.test-item.is c.requires.in_range;
 }
 
-pub returns-clause-digits : goal.returns-clause-digits
-returns-clause-digits c =
+pub returns : goal.returns
+returns c =
     map-whole (λ (test : PlainPrepared). slice_index_or test.letters c.args.place 0) plain_prepared c.args.tests.now _
     c.loop-test.test-index _ c.loop-test.invariant c.loop-test-test.false refl
-
-pub returns-clause-are_digits : goal.returns-clause-are_digits
-returns-clause-are_digits c =
-    let tests = c.args.tests.now in
-    let made : c.loop-test.digits.items ≡ digits_at (plains tests) c.args.place =
-    map-whole (λ (test : PlainPrepared). slice_index_or test.letters c.args.place 0) plain_prepared tests _
-    c.loop-test.test-index _ c.loop-test.invariant c.loop-test-test.false refl in
-    subst (AreDigits (components (plains tests))) (sym made)
-    (digits_at-AreDigits tests c.args.place c.requires.in_range)

@@ -1,26 +1,10 @@
-use Rattle.std.proofs.Common.{◌≡◌, ℕ, ◌<◌, get_or, false, sym, subst, ap, ◌∙◌, arith}
-use Rattle.monoid_product.specs.Component.{component_size}
-use Rattle.monoid_product.specs.ComponentOf.{plain_component}
-use Rattle.monoid_product.specs.Product.{digits, key_count}
+use Rattle.std.proofs.Common.{◌≡◌, get_or, false, sym, ap, ◌∙◌, arith}
+use Rattle.monoid_product.specs.Product.{digits}
 use Rattle.test_homs.specs.declared.prepared.Prepared.{Prepared}
 use Rattle.test_homs.specs.Joined.{components}
-use Rattle.test_homs.proofs.PreparedList.{plains, accepts_at, all_accept-all, all_accept-fails}
-use Rattle.test_homs.proofs.PreparedList.{digit-below, length-key_digits}
+use Rattle.test_homs.proofs.Digits.{plains, accepts_at, all_accept-all, all_accept-fails}
+use Rattle.test_homs.proofs.Digits.{length-key_digits}
 use Rattle.test_homs.proofs.joined.key_accepted.Goals as goal
-
-pub accepts-requires : goal.accepts-requires
-accepts-requires c =
-    let tests = c.args.tests.now in
-    let is_key = subst (λ parts. c.args.key < key_count parts) c.requires.product c.requires.is_key in
-    let below = digit-below tests c.args.key is_key c.loop-k.k c.index-tests-k.result c.loop-k-test.true in
-    let digit = c.digit.ensures.digit
-    ∙ ap (λ parts. get_or (digits parts c.args.key) c.loop-k.k 0) c.requires.product in
-    record {
-      is_element = subst (λ (element : ℕ). element < component_size (plain_component c.index-tests-k.result.component))
-          (sym digit)
-          (subst (λ (test : Prepared). get_or (digits (components (plains tests)) c.args.key) c.loop-k.k 0
-          < component_size (plain_component test.component)) (sym c.index-tests-k.is) below);
-    }
 
 pub returns-then-not-accepts : goal.returns-then-not-accepts
 returns-then-not-accepts c =

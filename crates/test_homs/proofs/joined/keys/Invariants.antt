@@ -1,7 +1,7 @@
 use Rattle.std.proofs.Common.{◌≡◌, map}
 use Rattle.std.specs.List.{range_with_len}
 use Rattle.test_homs.specs.Joined.{key_at}
-use Rattle.test_homs.proofs.PreparedList.{plains}
+use Rattle.test_homs.proofs.Digits.{plains}
 use Rattle.test_homs.proofs.joined.keys.Given as goal
 
 -- the keys of the places so far

@@ -1,17 +1,8 @@
-use Rattle.std.proofs.Common.{ℕ, ◌<◌}
-use Rattle.std.proofs.lemmas.List.Elements.{All-push, All-same}
-use Rattle.monoid_product.specs.Component.{component_size}
 use Rattle.test_homs.proofs.Pieces.{items-more}
 use Rattle.test_homs.proofs.kind.push_row.Goals as goal
 
 pub loop-label-preserved : goal.loop-label-preserved
 loop-label-preserved g c =
-    let hom = g.K.Kind.hom c.args.kind.now in
-    let is_element = λ (letter : ℕ). letter < component_size hom.component in
-    record {
-      letters = items-more (hom.letter (g.K.Kind.rows c.args.kind.now) c.args.row) _ _ _ _ _
-          c.loop-label.invariant.letters c.in_ok-push.ensures.items c.letter.ensures.letter;
-      elements = All-same is_element _ _ c.in_ok-push.ensures.items
-          (All-push is_element c.loop-label.letters.items c.letter.result
-          c.loop-label.invariant.elements c.letter.ensures.is_element);
-    }
+    items-more ((g.K.Kind.hom c.args.kind.now).letter (g.K.Kind.rows c.args.kind.now) c.args.row)
+    c.args.letters.now.items c.loop-label.letters.items c.push.new.self.items c.loop-label.label c.letter.result
+    c.loop-label.invariant c.in_ok-push.ensures.items c.letter.ensures

@@ -1,22 +1,23 @@
-use Rattle.std.proofs.Common.{◌≡◌, ℕ, ◌*◌, All, List, None, map, refl, sym, subst, ap, ◌∙◌, arith}
+use Rattle.std.proofs.Common.{◌≡◌, ℕ, ◌*◌, None, map, refl, sym, subst, ap, ◌∙◌, arith}
 use Rattle.gta_checked.specs.PlainRows.{plain_rows}
 use Rattle.monoid_product.specs.ProductOf.{plain_parts}
 use Rattle.test_homs.specs.Homs.{ArePrepared}
-use Rattle.test_homs.specs.Joined.{components, joined}
+use Rattle.test_homs.specs.Joined.{AreJoinable, components, joined}
 use Rattle.test_homs.specs.Negatives.{first_negative}
-use Rattle.test_homs.specs.Prepared.{PlainPrepared, HasLetters, plain_prepared, prepared_tests}
-use Rattle.test_homs.proofs.Preparations.{prepared, prepared_tests-HasLetters, prepared-ArePrepared}
+use Rattle.test_homs.specs.Prepared.{plain_prepared, prepared_tests}
+use Rattle.test_homs.proofs.Preparations.{prepared, prepared_tests-AreJoinable, prepared-ArePrepared}
 use Rattle.test_homs.proofs.Preparations.{key_count-components}
 use Rattle.test_homs.proofs.tests_of.prepare_tests.Goals as goal
 
-pub tests_in-requires-clause-letters : goal.tests_in-requires-clause-letters
-tests_in-requires-clause-letters c =
+pub tests_in-requires-clause-joinable : goal.tests_in-requires-clause-joinable
+tests_in-requires-clause-joinable c =
     let checked = c.args.checked.now in let rows = plain_rows c.args.rows.now in
+    let none : first_negative checked rows ≡ None = sym c.first_negative.ensures.first ∙ c.in_default.is in
     let same : map plain_prepared c.deref-in-Ok.result.now ≡ prepared_tests checked rows =
     ap (map plain_prepared) c.deref-in-Ok.ensures.value ∙ c.in_ok-tests.ensures in
-    subst (λ (tests : List PlainPrepared). All (HasLetters (rows.count * c.label_count-labels.result)) tests) (sym same)
-    (subst (λ (labels : ℕ). All (HasLetters (rows.count * labels)) (prepared_tests checked rows))
-    (sym c.label_count-labels.ensures) (prepared_tests-HasLetters checked rows))
+    subst (AreJoinable (rows.count * c.label_count-labels.result)) (sym same)
+    (subst (λ (labels : ℕ). AreJoinable (rows.count * labels) (prepared_tests checked rows))
+    (sym c.label_count-labels.ensures) (prepared_tests-AreJoinable checked rows c.first_negative.ensures.within none))
 
 pub returns-in-Ok-clause-small : goal.returns-in-Ok-clause-small
 returns-in-Ok-clause-small c =

@@ -1,48 +1,15 @@
 -- The digits of prepared tests, read from their vectors.
-use Rattle.std.proofs.Common.{◌≡◌, ℕ, zero, suc, ◌*◌, ◌%◌, ◌<◌, Bool, true, false, ◌&&◌, List, [], ◌∷◌, map, length}
-use Rattle.std.proofs.Common.{get_or, slice_index_or, All, refl, ap, ◌∙◌, arith}
+use Rattle.std.proofs.Common.{◌≡◌, ℕ, zero, suc, ◌<◌, Bool, true, false, ◌&&◌, List, [], ◌∷◌, map, length}
+use Rattle.std.proofs.Common.{get_or, slice_index_or, refl, ap, ◌∙◌, arith}
 use Rattle.std.proofs.Math.Bool.{and-false}
-use Rattle.std.proofs.lemmas.List.Elements.{All-head, All-tail}
-use Rattle.std.proofs.lemmas.Nat.{div_below, mod_below}
-use Rattle.monoid_product.specs.Component.{PlainComponent, component_size}
-use Rattle.monoid_product.specs.ComponentOf.{plain_component}
-use Rattle.monoid_product.specs.Product.{AreDigits, digits, key_count}
+use Rattle.monoid_product.specs.Component.{PlainComponent}
+use Rattle.monoid_product.specs.Product.{digits}
 use Rattle.test_homs.specs.declared.prepared.Prepared.{Prepared}
-use Rattle.test_homs.specs.Joined.{components, digits_at, all_accept}
+use Rattle.test_homs.specs.Joined.{components, all_accept}
 use Rattle.test_homs.specs.Prepared.{PlainPrepared, plain_prepared}
 
 abbrev pub plains : List Prepared → List PlainPrepared
 plains tests = map plain_prepared tests
-
-abbrev HasPlace : ℕ → PlainPrepared → Type 0
-HasPlace place test = place < length test.letters
-
-pub digits_at-AreDigits : (tests : List Prepared) (place : ℕ) → All (HasPlace place) (plains tests)
-    → AreDigits (components (plains tests)) (digits_at (plains tests) place)
-digits_at-AreDigits [] place all = tt
-digits_at-AreDigits (t ∷ ts) place all = (
-  t.elements place 0 (All-head (HasPlace place) (plain_prepared t) (plains ts) all),
-  digits_at-AreDigits ts place (All-tail (HasPlace place) (plain_prepared t) (plains ts) all),
-)
-
-some-factor : (size keys key : ℕ) → key < size * keys → 0 < keys
-some-factor size zero key below = absurd (omega arith)
-some-factor size (suc keys) key below = omega arith
-
--- a digit of a key is an element
-pub digit-below : (tests : List Prepared) (key : ℕ) → key < key_count (components (plains tests))
-    → (k : ℕ) (d : Prepared) → k < length tests
-    → get_or (digits (components (plains tests)) key) k 0
-    < component_size (plain_component (get_or tests k d).component)
-digit-below [] key is_key k d below = absurd (omega arith)
-digit-below (t ∷ ts) key is_key zero d below =
-    let keys = key_count (components (plains ts)) in
-    div_below key keys (component_size (plain_component t.component))
-    (some-factor (component_size (plain_component t.component)) keys key is_key) is_key
-digit-below (t ∷ ts) key is_key (suc k) d below =
-    let keys = key_count (components (plains ts)) in
-    digit-below ts (key % keys)
-    (mod_below key keys (some-factor (component_size (plain_component t.component)) keys key is_key)) k d (omega arith)
 
 length-components : (tests : List Prepared) → length (components (plains tests)) ≡ length tests
 length-components [] = refl

@@ -1,7 +1,8 @@
 -- What the key of a candidate decides: its digits are the products of the tests, and each decides its test.
-use Rattle.std.proofs.Common.{◌≡◌, ℕ, ◌+◌, ◌*◌, ◌<◌, Bool, false, ◌&&◌, List, [], ◌∷◌, map, get_or}
+use Rattle.std.proofs.Common.{◌≡◌, ℕ, ◌+◌, ◌*◌, ◌<◌, ◌≤◌, Bool, false, ◌&&◌, List, [], ◌∷◌, map, length, get_or}
 use Rattle.std.proofs.Common.{All, inl, inr, refl, sym, subst, ap, ◌∙◌, arith}
 use Rattle.std.specs.List.{list_all, range_with_len}
+use Rattle.std.proofs.lemmas.List.{length-map}
 use Rattle.std.proofs.lemmas.List.Elements.{All-head, All-tail, All-cons}
 use Rattle.std.proofs.lemmas.List.FromFn.{get_or-map-range_with_len}
 use Rattle.std.proofs.lemmas.Nat.{mul-add-lt}
@@ -13,6 +14,7 @@ use Rattle.monoid_kit.proofs.Products.{product_by-is_element, product_by-same}
 use Rattle.monoid_product.specs.Component.{PlainComponent, component_size, component_unit, component_mul}
 use Rattle.monoid_product.specs.Product.{AreDigits, key_of, digits, digit_products, product_mul, product_unit}
 use Rattle.monoid_product.specs.Product.{key_count}
+use Rattle.monoid_product.specs.declared.product.TheConstants.{PART_LIMIT}
 use Rattle.monoid_product.proofs.Digits.{digits-key_of, key_of-is_key}
 use Rattle.shape_gen.specs.declared.mark.Mark.{Mark}
 use Rattle.gta_checked.specs.PlainRows.{PlainRows}
@@ -20,9 +22,9 @@ use Rattle.gta_meaning.specs.InRange.{IsInRange, IsMarkInRange}
 use Rattle.test_homs.specs.Hom.{Hom, IsHomOf, letter_product}
 use Rattle.test_homs.specs.Homs.{PlainTests, accepts}
 use Rattle.test_homs.specs.Homs as homs
-use Rattle.test_homs.specs.Joined.{components, digits_at, key_at, all_accept, key_accepted, joined}
-use Rattle.test_homs.specs.Prepared.{PlainPrepared, HasLetters, prepared_of}
-use Rattle.test_homs.proofs.PreparedTests.{letter-at, letter-below, length-letters_of, accept-at}
+use Rattle.test_homs.specs.Joined.{AreJoinable, HasLetters, components, digits_at, key_at, all_accept, key_accepted, joined}
+use Rattle.test_homs.specs.Prepared.{PlainPrepared, prepared_of}
+use Rattle.test_homs.proofs.Letters.{letter-at, letter-below, length-letters_of, accept-at}
 
 All-IsIn : {A : Type 0} (P : A → Type 0) (xs : List A) → All P xs → (x : A) → IsIn x xs → P x
 All-IsIn P [] all x x_in = absurd x_in
@@ -73,7 +75,7 @@ module _ (rows : PlainRows) (labels : ℕ) {T : Type 0} (hom : T → Hom) where
       (letter-at (hom t) rows labels m.row m.label m_in.row m_in.label)
       ∙ ap (λ ds. letter m t ∷ ds) (digits_at-letters m m_in ts)
 
-  pub HasLetters-map : (ts : List T) → All (HasLetters (rows.count * labels)) (map plain ts)
+  HasLetters-map : (ts : List T) → All (HasLetters (rows.count * labels)) (map plain ts)
   HasLetters-map [] = λ k test below. absurd (omega arith)
   HasLetters-map (t ∷ ts) =
       All-cons (HasLetters (rows.count * labels)) (plain t) (map plain ts) (length-letters_of (hom t) rows labels)
@@ -119,6 +121,13 @@ module _ (rows : PlainRows) (labels : ℕ) {T : Type 0} (hom : T → Hom) where
         ∙ ap (λ b. passes t c && b) (digits-decide c in_range ts (All-tail Is t ts all))
 
     module _ (ts : List T) (all : All Is ts) where
+      pub are_joinable : length ts ≤ PART_LIMIT → AreJoinable (rows.count * labels) (map plain ts)
+      are_joinable few = record {
+        few = omega (arith, length-map ts plain);
+        letters = HasLetters-map ts;
+        digits = λ place. places-AreDigits place ts all;
+      }
+
       -- the product of letters is the key of the products
       product-letters : (c : List Mark)
           → product_by (product_unit (parts ts)) (product_mul (parts ts)) (λ m. key_of (parts ts) (map (letter m) ts)) c
