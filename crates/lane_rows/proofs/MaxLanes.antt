@@ -27,7 +27,7 @@ false_from_decides false decides not = refl
 pub present-int_eq : (lane : ℤ) → lane ≢ absent → int_eq lane absent ≡ false
 present-int_eq lane present = false_from_decides (int_eq lane absent) (Decides-int_eq lane absent) present
 
-cases_absent : (lane : ℤ) → (lane ≡ absent) ⊎ (lane ≢ absent)
+pub cases_absent : (lane : ℤ) → (lane ≡ absent) ⊎ (lane ≢ absent)
 cases_absent lane = by_test (int_eq lane absent) (Decides-int_eq lane absent)
   where
     by_test : (test : Bool) → Decides test (lane ≡ absent) → (lane ≡ absent) ⊎ (lane ≢ absent)
