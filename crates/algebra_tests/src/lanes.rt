@@ -26,9 +26,7 @@ const LENGTHS: [usize; 6] = [0, 1, 7, 8, 9, 17];
 fn are_within(lanes: &[i64]) -> bool
     ensures { IsTrue result → All IsWithin lanes.now }
 {
-    lanes
-        .iter()
-        .all(|lane| *lane == ABSENT || lane.unsigned_abs() <= 4611686018427387903)
+    lanes.iter().all(|lane| *lane == ABSENT || lane.unsigned_abs() <= 4611686018427387903)
 }
 
 // The row after the other one, with the weight, was lifted onto it.
@@ -38,7 +36,9 @@ fn raised(
     from: &[i64],
     weight: i64,
 ) -> Result<Option<Vec<i64>>, AllocError> {
-    if into.len() != from.len() || !are_within(from) || weight.unsigned_abs() > 4611686018427387903
+    if into.len() != from.len()
+        || !are_within(from)
+        || weight.unsigned_abs() > 4611686018427387903
     {
         return Ok(None);
     }
@@ -101,9 +101,47 @@ fn a_row_of_truth_is_lifted_at_each_length(rt: HostRuntime) -> Result<(), Fail> 
 #[test]
 fn a_row_of_counts_is_lifted_at_each_length(rt: HostRuntime) -> Result<(), Fail> {
     let most = 18446744073709551615;
-    let into = [0, 1, 2, most, 4, 0, 0, 7, 8, 9, 0, 0, 0, 0, most - 3, most - 2, 1];
-    let from = [5, 0, 1, 1, most, 0, 2, 1, 1, 1, 9, 0, 0, 1, 1, 1, 6148914691236517205];
-    let lifted = [15, 1, 5, most, most, 0, 6, 10, 11, 12, 27, 0, 0, 3, most, most, most];
+    let into = [
+        0,
+        1,
+        2,
+        most,
+        4,
+        0,
+        0,
+        7,
+        8,
+        9,
+        0,
+        0,
+        0,
+        0,
+        most - 3,
+        most - 2,
+        1,
+    ];
+    let from = [
+        5,
+        0,
+        1,
+        1,
+        most,
+        0,
+        2,
+        1,
+        1,
+        1,
+        9,
+        0,
+        0,
+        1,
+        1,
+        1,
+        6148914691236517205,
+    ];
+    let lifted = [
+        15, 1, 5, most, most, 0, 6, 10, 11, 12, 27, 0, 0, 3, most, most, most,
+    ];
     for n in LENGTHS {
         let mut row = Vec::from_slice(rt.alloc(), &into[..n])?;
         lift_count(&mut row, &from[..n], 3);
@@ -117,8 +155,14 @@ fn sums_of_lanes(rt: HostRuntime) {
     assert_eq!(rt; greatest(&[]), ABSENT);
     assert_eq!(rt; greatest(&[ABSENT, -9, ABSENT, -3, -5]), -3);
     assert_eq!(rt; total_count(&[]), 0);
-    assert_eq!(rt; total_count(&[3, 18446744073709551600, 12]), 18446744073709551615);
-    assert_eq!(rt; total_count(&[3, 18446744073709551600, 13]), 18446744073709551615);
+    assert_eq!(rt;
+        total_count(&[3, 18446744073709551600, 12]),
+        18446744073709551615
+    );
+    assert_eq!(rt;
+        total_count(&[3, 18446744073709551600, 13]),
+        18446744073709551615
+    );
 }
 
 // Whether there are four lanes, each absent or small.
@@ -208,12 +252,27 @@ fn each_kit_of_numbers(rt: HostRuntime) -> Result<(), Fail> {
     ];
     for (at, least, greatest, any, many) in cases {
         let blank = || Blank::new(1);
-        assert_eq!(rt; doubled::<DenseMin, Brand>(&min, alloc, 1, Some(-5), at, blank())?, least);
-        assert_eq!(rt; doubled::<DenseMax, Brand>(&max, alloc, 1, Some(5), at, blank())?, greatest);
-        assert_eq!(rt; doubled::<DenseTruth, Brand>(&truth, alloc, 1, true, at, blank())?, any);
-        assert_eq!(rt; doubled::<DenseCount, Brand>(&count, alloc, 1, 3, at, blank())?, many);
+        assert_eq!(rt;
+            doubled::<DenseMin, Brand>(&min, alloc, 1, Some(-5), at, blank())?,
+            least
+        );
+        assert_eq!(rt;
+            doubled::<DenseMax, Brand>(&max, alloc, 1, Some(5), at, blank())?,
+            greatest
+        );
+        assert_eq!(rt;
+            doubled::<DenseTruth, Brand>(&truth, alloc, 1, true, at, blank())?,
+            any
+        );
+        assert_eq!(rt;
+            doubled::<DenseCount, Brand>(&count, alloc, 1, 3, at, blank())?,
+            many
+        );
     }
-    let (a, b) = (min.single(alloc, 1, Some(-5))?, min.single(alloc, 1, Some(2))?);
+    let (a, b) = (
+        min.single(alloc, 1, Some(-5))?,
+        min.single(alloc, 1, Some(2))?,
+    );
     assert_eq!(rt; added(&min, alloc, &a, &b, 1)?, Some(-5));
     assert_eq!(rt; added(&min, alloc, &a, &b, 0)?, Some(0));
     Ok(())
@@ -238,11 +297,7 @@ fn folded(from: u32, to: u32, len: u32) -> Span {
 }
 
 // The spans of an element; none where it is no element.
-fn spans_of<M: Monoid>(
-    monoid: &M,
-    alloc: Global,
-    a: u32,
-) -> Result<Option<Vec<Span>>, AllocError> {
+fn spans_of<M: Monoid>(monoid: &M, alloc: Global, a: u32) -> Result<Option<Vec<Span>>, AllocError> {
     if a < monoid.size() {
         Ok(Some(monoid.spans(alloc, a)?))
     } else {
@@ -286,11 +341,21 @@ fn runs_of_a_product(rt: HostRuntime) -> Result<(), Fail> {
         (0, &[rising(0, 0, 3), rising(3, 3, 3)]),
         (
             4,
-            &[rising(0, 4, 2), folded(2, 5, 1), rising(3, 1, 2), folded(5, 2, 1)],
+            &[
+                rising(0, 4, 2),
+                folded(2, 5, 1),
+                rising(3, 1, 2),
+                folded(5, 2, 1),
+            ],
         ),
         (
             2,
-            &[rising(0, 2, 1), folded(1, 2, 2), rising(3, 5, 1), folded(4, 5, 2)],
+            &[
+                rising(0, 2, 1),
+                folded(1, 2, 2),
+                rising(3, 5, 1),
+                folded(4, 5, 2),
+            ],
         ),
     ];
     for (a, spans) in cases {

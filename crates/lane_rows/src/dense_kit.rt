@@ -35,13 +35,15 @@ impl<S: Lanes, M: Monoid> MapKit for DenseKit<S, M> {
 
     ghost keys = { λ s. s.keys };
 
-    ghost fits = { λ s map. FitsRow (S.ring s.kit) (S.is_lane s.kit) (S.shows s.kit) (M.size s.keys) map.items };
+    ghost fits = { λ s map. FitsRow (S.ring s.kit) (S.is_lane s.kit) (S.shows s.kit)
+        (M.size s.keys) map.items };
 
     ghost value_at = { λ s map. shown (S.ring s.kit) (S.shows s.kit) map.items };
 
     ghost kept = { λ s map. 0 };
 
-    ghost value_is_good = { λ s map k fits. shown_is_good (S.laws s.kit) (S.is_lane s.kit) (S.shows s.kit) (M.size s.keys) map.items k fits };
+    ghost value_is_good = { λ s map k fits. shown_is_good (S.laws s.kit) (S.is_lane s.kit) (S.shows s.kit)
+        (M.size s.keys) map.items k fits };
 
     ghost few_kept = { λ s map fits. Prim.omega arith };
 

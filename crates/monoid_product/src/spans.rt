@@ -102,12 +102,7 @@ fn moved(span: Span, i: u32) -> u32
 }
 
 // Adds the spans, so much further on.
-fn add_shifted(
-    spans: &mut Vec<Span>,
-    inner: &[Span],
-    from: u32,
-    to: u32,
-) -> Result<(), AllocError>
+fn add_shifted(spans: &mut Vec<Span>, inner: &[Span], from: u32, to: u32) -> Result<(), AllocError>
     requires from_fits { All (λ span. from + span.from < 2 ^ 32) inner.now }
     requires to_fits { All (λ span. to + span.to < 2 ^ 32) inner.now }
     ensures { OnOk result (spans.new.items ≡ spans.old.items ++ map (shifted from to) inner.now) }
