@@ -10,7 +10,7 @@ use Rattle.std.proofs.lemmas.List.Elements.{All-head, All-tail, All-replicate, A
 use Rattle.std.proofs.lemmas.Simd.{length-zip2}
 use Rattle.monoid_kit.specs.Keyed.{IsAdditive}
 use Rattle.monoid_kit.proofs.Keyed.{product_by-IsAdditive, product_by-at_key}
-use Rattle.monoid_kit.proofs.Products.{product_by-same, product_by-append, product_by-unit}
+use Rattle.monoid_kit.proofs.Products.{product_by-append}
 use Rattle.semiring_kit.specs.Semiring.{SemiringOn, IsSemiring, IsGood, weight_bound}
 use Rattle.semiring_kit.specs.Total.{masked, total}
 use Rattle.semiring_kit.proofs.Sums.{masked_mul_right-IsAdditive, masked_is_good, total-is_sound}
@@ -19,8 +19,7 @@ use Rattle.key_map.specs.Convolution.{convolution}
 use Rattle.key_map.proofs.Convolutions.{convolution-masked}
 use Rattle.lane_rows.specs.Lanes.{IsGoodLane, LanesAddUp, add_times}
 use Rattle.lane_rows.specs.Rows.{shown, FitsRow, IsLifted, moved_at}
-use Rattle.lane_rows.proofs.Runs.{get_or-is_sound}
-use Rattle.lane_rows.proofs.Lifts.{shown-are_sound, shown-is_sound, lifted-good, IsLifted-none, IsLifted-same}
+use Rattle.lane_rows.proofs.Lifts.{shown-are_sound, lifted-good, IsLifted-none, IsLifted-same}
 use Rattle.lane_rows.proofs.Lifts.{IsLifted-then, moved_at-is_sound, range-append}
 
 pub shown-at : {E L : Type 0} (r : SemiringOn E) (shows : L → E) (row : List L) (k : ℕ) (d : L) → k < length row

@@ -1,6 +1,6 @@
 -- Rows of lanes to which runs, spans and all products of a key are added.
 use Rattle.std.proofs.Common.{◌≡◌, ℕ, zero, suc, ◌+◌, ◌-◌, ◌<◌, ◌≤◌, List, [], ◌∷◌, ◌++◌, length, get_or, take, drop}
-use Rattle.std.proofs.Common.{map, All, nat_eq, Bool, true, false, cond, inl, inr, refl, sym, ap, subst, ◌∙◌}
+use Rattle.std.proofs.Common.{map, All, nat_eq, true, false, cond, inl, inr, refl, sym, ap, subst, ◌∙◌}
 use Rattle.std.proofs.Common.{length-take, length-drop, length-append, arith}
 use Rattle.std.specs.List.{range_with_len}
 use Rattle.std.specs.Simd.Lanes.{zip2}
@@ -9,7 +9,7 @@ use Rattle.std.proofs.lemmas.List.{length-map, map-append, take-map}
 use Rattle.std.proofs.lemmas.List.Elements.{All-nil, All-cons, All-head, All-tail, All-append, All-take, All-drop}
 use Rattle.std.proofs.lemmas.Simd.{length-zip2, map-map}
 use Rattle.monoid_kit.specs.declared.span.Span.{Span}
-use Rattle.monoid_kit.specs.Items.{IsIn, AllElements}
+use Rattle.monoid_kit.specs.Items.{IsIn}
 use Rattle.monoid_kit.specs.Spans.{moved, IsSpan, AreSpans}
 use Rattle.monoid_kit.proofs.Finds.{IsIn-range}
 use Rattle.monoid_kit.proofs.Spans.{AreSpans-end}
@@ -17,10 +17,9 @@ use Rattle.monoid_kit.proofs.Products.{product_by-same, product_by-map, product_
 use Rattle.semiring_kit.specs.Semiring.{SemiringOn, IsSemiring, IsGood, weight_bound}
 use Rattle.semiring_kit.specs.Total.{masked, total}
 use Rattle.semiring_kit.proofs.Sums.{mul_is_good, add_is_good, total_is_good, total-reach, total-is_sound}
-use Rattle.semiring_kit.proofs.Sums.{good_are_sound}
 use Rattle.lane_rows.specs.Lanes.{IsGoodLane, LanesAddUp, add_times}
-use Rattle.lane_rows.specs.Rows.{shown, FitsRow, IsLifted, run_at, span_at, moved_at}
-use Rattle.lane_rows.proofs.Runs.{lifted-get_or, get_or-is_sound, run-is_sound, total-rising, total-folded, total-moved}
+use Rattle.lane_rows.specs.Rows.{shown, IsLifted, run_at, span_at, moved_at}
+use Rattle.lane_rows.proofs.Runs.{lifted-get_or, get_or-is_sound, total-rising, total-folded, total-moved}
 use Rattle.lane_rows.proofs.Runs.{part-map_from, zip2-add_times}
 
 drop-map : {X Y : Type 0} (f : X → Y) (n : ℕ) (xs : List X) → drop n (map f xs) ≡ map f (drop n xs)

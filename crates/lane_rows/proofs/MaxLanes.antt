@@ -1,5 +1,5 @@
 -- Lemmas on lanes of weights.
-use Rattle.std.proofs.Common.{◌≡◌, ◌≢◌, ◌≤◌, ℕ, ℤ, pos, negsuc, ◌+ℤ◌, ◌+◌, unsigned_abs, ◌⊎◌, List, [], ◌∷◌, length}
+use Rattle.std.proofs.Common.{◌≡◌, ◌≢◌, ◌≤◌, ℤ, ◌+ℤ◌, ◌+◌, unsigned_abs, ◌⊎◌, List, [], ◌∷◌, length}
 use Rattle.std.proofs.Common.{get_or, map, All, subst, Bool, true, false, FitsSigned, to_z, of_z, w64, cond, Option}
 use Rattle.std.proofs.Common.{Some, None, inl, inr, refl, sym, ap, ◌∙◌, arith}
 use Rattle.std.specs.Bool.{Decides}

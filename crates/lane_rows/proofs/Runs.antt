@@ -1,13 +1,13 @@
 -- Runs of elements, each at the key next to the one before: what they have at a key, and sums over the places of a
 -- span.
 use Rattle.std.proofs.Common.{◌≡◌, ℕ, zero, suc, ◌+◌, ◌<◌, ◌≤◌, List, [], ◌∷◌, ◌++◌, length, get_or, take, drop, map}
-use Rattle.std.proofs.Common.{All, nat_eq, Bool, inl, inr, refl, sym, ap, subst, ◌∙◌, arith}
+use Rattle.std.proofs.Common.{All, nat_eq, inl, inr, refl, sym, ap, ◌∙◌, arith}
 use Rattle.std.specs.List.{range_with_len}
 use Rattle.std.specs.Simd.Lanes.{zip2}
 use Rattle.std.proofs.lemmas.Bool.{cases_eq, eq-eqb, ne_eqb}
 use Rattle.std.proofs.lemmas.List.{drop_more}
 use Rattle.std.proofs.lemmas.List.Elements.{All-head, All-tail}
-use Rattle.monoid_kit.proofs.Products.{product_by-same, only-product_by, only-is_element}
+use Rattle.monoid_kit.proofs.Products.{only-product_by, only-is_element}
 use Rattle.semiring_kit.specs.Semiring.{SemiringOn, IsSemiring}
 use Rattle.semiring_kit.specs.Total.{masked, total}
 use Rattle.semiring_kit.proofs.Sums.{mul-total, total-is_sound}

@@ -1,5 +1,5 @@
 -- What holds of each row that fits.
-use Rattle.std.specs.Prelude.{ℕ, zero, suc, List, [], ◌∷◌, All, map}
+use Rattle.std.specs.Prelude.{ℕ, zero, suc, List, [], ◌∷◌, All}
 use Rattle.std.proofs.lemmas.List.Elements.{All-head, All-tail}
 use Rattle.semiring_kit.specs.Semiring.{SemiringOn, IsSemiring, IsGood}
 use Rattle.semiring_kit.proofs.Sums.{zero_is_good}

@@ -8,13 +8,13 @@ use Rattle.std.proofs.lemmas.List.{flat_map_more}
 use Rattle.std.proofs.lemmas.Slice.{first_rest}
 use Rattle.std.proofs.lemmas.Nat.{div-mul-add, mod-mul-add, mul-add-lt, div_below, mod_below}
 use Rattle.monoid_kit.specs.declared.span.Span.{Span}
-use Rattle.monoid_kit.specs.Spans.{moved, IsSpan, AreSpans}
+use Rattle.monoid_kit.specs.Spans.{moved, AreSpans}
 use Rattle.monoid_kit.proofs.Spans.{AreSpans-append, AreSpans-end, AreSpans-same}
 use Rattle.monoid_product.specs.declared.component.Component.{Component}
-use Rattle.monoid_product.specs.Component.{component_size, component_mul}
+use Rattle.monoid_product.specs.Component.{component_mul}
 use Rattle.monoid_product.specs.ComponentOf.{plain_component, plain_components}
 use Rattle.monoid_product.specs.ComponentLaws.{component-IsMonoid}
-use Rattle.monoid_product.specs.Product.{key_count, product_mul}
+use Rattle.monoid_product.specs.Product.{product_mul}
 use Rattle.monoid_product.specs.ProductLaws.{parts-IsMonoid}
 use Rattle.monoid_product.specs.Nested.{shifted, at_place, in_span, nested, AreBelow, IsWithin}
 use Rattle.monoid_product.proofs.Numbers.{times-div}

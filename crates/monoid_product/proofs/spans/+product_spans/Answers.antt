@@ -1,8 +1,7 @@
-use Rattle.std.proofs.Common.{◌≡◌, ◌+◌, ◌*◌, ◌/◌, ◌%◌, ◌<◌, ◌≤◌, All, length, length-take, length-drop, refl, ap, subst}
+use Rattle.std.proofs.Common.{◌/◌, ◌%◌, All, refl, ap, subst}
 use Rattle.std.proofs.Common.{sym, ◌∙◌, arith}
 use Rattle.std.proofs.Math.Nat.{div-le_self}
 use Rattle.std.proofs.lemmas.Result.{IfOk-weaker}
-use Rattle.monoid_kit.specs.Spans.{AreSpans}
 use Rattle.monoid_product.specs.ComponentOf.{plain_component, plain_components}
 use Rattle.monoid_product.specs.Component.{component_mul}
 use Rattle.monoid_product.specs.Product.{product_mul}

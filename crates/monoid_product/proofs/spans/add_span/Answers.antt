@@ -1,4 +1,4 @@
-use Rattle.std.proofs.Common.{◌≡◌, ◌+◌, ◌*◌, ◌<◌, ◌++◌, ap, map, slice_index_or, subst, sym, ◌∙◌, arith}
+use Rattle.std.proofs.Common.{◌+◌, ◌*◌, ◌<◌, ◌++◌, ap, map, slice_index_or, ◌∙◌, arith}
 use Rattle.monoid_kit.specs.Spans.{moved}
 use Rattle.monoid_product.specs.Nested.{shifted, at_place}
 use Rattle.monoid_product.proofs.Nested.{digit-below, flat_map-range_more}

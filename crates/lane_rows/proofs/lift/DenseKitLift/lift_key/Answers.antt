@@ -1,9 +1,8 @@
-use Rattle.std.proofs.Common.{◌≡◌, ◌<◌, ◌≤◌, ◌+◌, ◌∷◌, [], drop, length, false, get_or, subst, sym, ap, ◌∙◌, arith}
+use Rattle.std.proofs.Common.{◌+◌, drop, false, get_or, subst, sym, arith}
 use Rattle.std.proofs.Math.ListN.{drop_of_length-le}
 use Rattle.std.proofs.lemmas.List.{drop_more}
 use Rattle.monoid_kit.specs.declared.span.Span.{Span}
 use Rattle.monoid_kit.specs.Spans.{AreSpans}
-use Rattle.lane_rows.specs.Lanes.{IsGoodLane}
 use Rattle.lane_rows.specs.Rows.{shown}
 use Rattle.lane_rows.proofs.Lifts.{next_span, lifting-start, lifting-more, lifting-end, shown-is_sound}
 use Rattle.lane_rows.proofs.lift.DenseKitLift.lift_key.Goals as goal

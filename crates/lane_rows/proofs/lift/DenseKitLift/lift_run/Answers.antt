@@ -1,4 +1,4 @@
-use Rattle.std.proofs.Common.{length, arith}
+use Rattle.std.proofs.Common.{arith}
 use Rattle.lane_rows.proofs.Lifts.{run-IsLifted}
 use Rattle.lane_rows.proofs.lift.DenseKitLift.lift_run.Goals as goal
 
