@@ -6,6 +6,8 @@
 #[cfg(test)]
 mod best_lists;
 #[cfg(test)]
+mod lanes;
+#[cfg(test)]
 mod letters;
 #[cfg(test)]
 mod maps;

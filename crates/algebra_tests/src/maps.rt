@@ -91,7 +91,7 @@ fn convolved<K: MapKit, L: Ledger>(
 }
 
 // The value, at a key, of the map with one at the unit added to the sum of two maps.
-fn added<K: MapKit>(
+pub(crate) fn added<K: MapKit>(
     kit: &K,
     alloc: Global,
     a: &K::Map,

@@ -21,7 +21,7 @@ fn is_table(table: &RawTable) -> bool
 }
 
 // Sums of bits, by their table.
-fn bits(alloc: Global) -> Result<Option<Component>, AllocError> {
+pub(crate) fn bits(alloc: Global) -> Result<Option<Component>, AllocError> {
     let table = RawTable {
         size: 2,
         unit: 0,

@@ -1,5 +1,7 @@
 -- Lemmas on lanes of weights.
-use Rattle.std.proofs.Common.{◌≡◌, ◌≢◌, ◌≤◌, ℕ, ℤ, pos, negsuc, ◌+ℤ◌, ◌+◌, unsigned_abs, ◌⊎◌, List, [], ◌∷◌, length, get_or, map, All, subst, Bool, true, false, FitsSigned, to_z, of_z, w64, cond, Option, Some, None, inl, inr, refl, sym, ap, ◌∙◌, arith}
+use Rattle.std.proofs.Common.{◌≡◌, ◌≢◌, ◌≤◌, ℤ, ◌+ℤ◌, ◌+◌, unsigned_abs, ◌⊎◌, List, [], ◌∷◌, length}
+use Rattle.std.proofs.Common.{get_or, map, All, subst, Bool, true, false, FitsSigned, to_z, of_z, w64, cond, Option}
+use Rattle.std.proofs.Common.{Some, None, inl, inr, refl, sym, ap, ◌∙◌, arith}
 use Rattle.std.specs.Bool.{Decides}
 use Rattle.std.specs.Int.{int_max}
 use Rattle.std.specs.List.{fold}
@@ -27,7 +29,7 @@ false_from_decides false decides not = refl
 pub present-int_eq : (lane : ℤ) → lane ≢ absent → int_eq lane absent ≡ false
 present-int_eq lane present = false_from_decides (int_eq lane absent) (Decides-int_eq lane absent) present
 
-cases_absent : (lane : ℤ) → (lane ≡ absent) ⊎ (lane ≢ absent)
+pub cases_absent : (lane : ℤ) → (lane ≡ absent) ⊎ (lane ≢ absent)
 cases_absent lane = by_test (int_eq lane absent) (Decides-int_eq lane absent)
   where
     by_test : (test : Bool) → Decides test (lane ≡ absent) → (lane ≡ absent) ⊎ (lane ≢ absent)
@@ -62,9 +64,11 @@ plus-reach : (a b : ℤ) → unsigned_abs (a +ℤ b) ≤ unsigned_abs a + unsign
 plus-reach a b = omega (arith, ints)
 
 -- as the machine has it
-pub raised-machine : (weight a b result : ℤ) → FitsSigned w64 weight → FitsSigned w64 a → FitsSigned w64 b → FitsSigned w64 result
+pub raised-machine : (weight a b result : ℤ) → FitsSigned w64 weight → FitsSigned w64 a → FitsSigned w64 b
+    → FitsSigned w64 result
     → (of_z w64 b ≡ 9223372036854775808 → ⊥) → IsWithin b → unsigned_abs weight ≤ weight_bound
-    → result ≡ int_max (to_z w64 (of_z w64 a)) (to_z w64 (of_z w64 (to_z w64 (of_z w64 b) +ℤ to_z w64 (of_z w64 weight))))
+    → result ≡ int_max (to_z w64 (of_z w64 a))
+    (to_z w64 (of_z w64 (to_z w64 (of_z w64 b) +ℤ to_z w64 (of_z w64 weight))))
     → to_z w64 (of_z w64 result) ≡ raised weight a b
 raised-machine weight a b result weight_fits a_fits b_fits result_fits tested within weight_within is =
     let present = present-machine b tested in
@@ -72,13 +76,20 @@ raised-machine weight a b result weight_fits a_fits b_fits result_fits tested wi
     let sum_fits : FitsSigned w64 (b +ℤ weight) =
     fits_signed_from_abs w64 (b +ℤ weight) (let both = plus-reach b weight in omega arith) in
     to_z-of_z w64 result result_fits ∙ is
-    ∙ rw (to_z-of_z w64 a a_fits, to_z-of_z w64 b b_fits, to_z-of_z w64 weight weight_fits, to_z-of_z w64 (b +ℤ weight) sum_fits)
+    ∙ rw (
+      to_z-of_z w64 a a_fits,
+      to_z-of_z w64 b b_fits,
+      to_z-of_z w64 weight weight_fits,
+      to_z-of_z w64 (b +ℤ weight)
+          sum_fits,
+    )
     (raised-present weight a b present)
 
 pub raised-read : (weight a b : ℤ) → FitsSigned w64 a → FitsSigned w64 b
     → raised weight (to_z w64 (of_z w64 a)) (to_z w64 (of_z w64 b)) ≡ raised weight a b
 raised-read weight a b a_fits b_fits =
-    ap (λ x. raised weight x (to_z w64 (of_z w64 b))) (to_z-of_z w64 a a_fits) ∙ ap (raised weight a) (to_z-of_z w64 b b_fits)
+    ap (λ x. raised weight x (to_z w64 (of_z w64 b))) (to_z-of_z w64 a a_fits)
+    ∙ ap (raised weight a) (to_z-of_z w64 b b_fits)
 
 -- a lane that is raised shows the sum in the semiring
 module _ (weight a b : ℤ) (weight_within : unsigned_abs weight ≤ weight_bound) (b_within : IsWithin b) where
@@ -122,8 +133,10 @@ module _ (weight a b : ℤ) (weight_within : unsigned_abs weight ≤ weight_boun
 -- the greater of two lanes
 module _ (a b : ℤ) (a_within : IsWithin a) (b_within : IsWithin b) where
   by_shown_max : (x y : Option ℤ) → weight_of_lane a ≡ x → weight_of_lane b ≡ y
-      → weight_of_lane (int_max a b) ≡ max_plus.add x y → weight_of_lane (int_max a b) ≡ max_plus.add (weight_of_lane a) (weight_of_lane b)
-  by_shown_max x y a_is b_is shown = shown ∙ ap (λ e. max_plus.add e y) (sym a_is) ∙ ap (max_plus.add (weight_of_lane a)) (sym b_is)
+      → weight_of_lane (int_max a b) ≡ max_plus.add x y
+      → weight_of_lane (int_max a b) ≡ max_plus.add (weight_of_lane a) (weight_of_lane b)
+  by_shown_max x y a_is b_is shown =
+      shown ∙ ap (λ e. max_plus.add e y) (sym a_is) ∙ ap (max_plus.add (weight_of_lane a)) (sym b_is)
 
   max-left : b ≡ absent → int_max a b ≡ a
   max-left none = elim (cases_absent a) [
@@ -162,14 +175,16 @@ module _ (a b : ℤ) (a_within : IsWithin a) (b_within : IsWithin b) where
   ]
 
 greatest-fold : (lane : ℤ) (lanes : List ℤ) → IsWithin lane → All IsWithin lanes
-    → weight_of_lane (fold int_max lane lanes) ≡ fold (λ sum x. max_plus.add sum (weight_of_lane x)) (weight_of_lane lane) lanes
+    → weight_of_lane (fold int_max lane lanes) ≡ fold (λ sum x. max_plus.add sum (weight_of_lane x))
+    (weight_of_lane lane) lanes
 greatest-fold lane [] within each = refl
 greatest-fold lane (x ∷ xs) within each =
     let x_within = All-head IsWithin x xs each in
     greatest-fold (int_max lane x) xs (int_max-IsWithin lane x within x_within) (All-tail IsWithin x xs each)
     ∙ ap (λ e. fold (λ sum y. max_plus.add sum (weight_of_lane y)) e xs) (int_max-shows lane x within x_within)
 
-pub greatest-total : (lanes : List ℤ) → All IsWithin lanes → weight_of_lane (greatest lanes) ≡ total max_plus weight_of_lane lanes
+pub greatest-total : (lanes : List ℤ) → All IsWithin lanes
+    → weight_of_lane (greatest lanes) ≡ total max_plus weight_of_lane lanes
 greatest-total lanes each =
     greatest-fold absent lanes (λ present. absurd (present refl)) each
     ∙ product_from_left-product_by max_plus-IsSemiring.addition.monoid weight_of_lane lanes (λ x x_in. tt)
@@ -178,22 +193,29 @@ greatest-total lanes each =
 pub good-IsWithin : (lane : ℤ) → IsGood max_plus (weight_of_lane lane) → IsWithin lane
 good-IsWithin lane good present = subst (λ e. max_plus.reach e ≤ weight_bound) (weight-present lane present) good.within
 
-pub goods-IsWithin : (lanes : List ℤ) → All (IsGoodLane max_plus (λ lane. Unit {0}) weight_of_lane) lanes → All IsWithin lanes
+pub goods-IsWithin : (lanes : List ℤ) → All (IsGoodLane max_plus (λ lane. Unit {0}) weight_of_lane) lanes
+    → All IsWithin lanes
 goods-IsWithin lanes good = λ k d below. good-IsWithin (get_or lanes k d) (good k d below).good
 
 -- all lanes at once
-pub lifted-max_plus : (by : ℤ) (into from new : List ℤ) → by ≢ absent → IsWithin by → All IsWithin from → new ≡ lifted_max by into from
-    → map weight_of_lane new ≡ zip2 (add_times max_plus (weight_of_lane by)) (map weight_of_lane into) (map weight_of_lane from)
+pub lifted-max_plus : (by : ℤ) (into from new : List ℤ) → by ≢ absent → IsWithin by → All IsWithin from
+    → new ≡ lifted_max by into from
+    → map weight_of_lane new ≡ zip2 (add_times max_plus (weight_of_lane by)) (map weight_of_lane into)
+    (map weight_of_lane from)
 lifted-max_plus by into from new present within from_within is =
     ap (map weight_of_lane) is
     ∙ map-zip2 (raised by) (add_times max_plus (Some by)) weight_of_lane weight_of_lane IsWithin
     (λ a b b_within. raised-max_plus by a b (within present) b_within) into from from_within
-    ∙ ap (λ e. zip2 (add_times max_plus e) (map weight_of_lane into) (map weight_of_lane from)) (sym (weight-present by present))
+    ∙ ap (λ e. zip2 (add_times max_plus e) (map weight_of_lane into) (map weight_of_lane from))
+    (sym (weight-present by present))
 
 pub unlifted-max_plus : (by : ℤ) (into from : List ℤ) → by ≡ absent → length into ≡ length from
-    → map weight_of_lane into ≡ zip2 (add_times max_plus (weight_of_lane by)) (map weight_of_lane into) (map weight_of_lane from)
+    → map weight_of_lane into ≡ zip2 (add_times max_plus (weight_of_lane by)) (map weight_of_lane into)
+    (map weight_of_lane from)
 unlifted-max_plus by into from none long =
     let same = length-map into weight_of_lane in
     let other = length-map from weight_of_lane in
-    sym (ap (λ e. zip2 (add_times max_plus e) (map weight_of_lane into) (map weight_of_lane from)) (weight-absent by none)
-    ∙ zip2-left (add_times max_plus None) (map weight_of_lane into) (map weight_of_lane from) (λ a b. chosen-none int_max a) (omega arith))
+    sym (ap (λ e. zip2 (add_times max_plus e) (map weight_of_lane into) (map weight_of_lane from))
+    (weight-absent by none)
+    ∙ zip2-left (add_times max_plus None) (map weight_of_lane into) (map weight_of_lane from)
+    (λ a b. chosen-none int_max a) (omega arith))

@@ -1,11 +1,13 @@
--- Runs of elements, each at the key next to the one before: what they have at a key, and sums over the places of a span.
-use Rattle.std.proofs.Common.{◌≡◌, ℕ, zero, suc, ◌+◌, ◌<◌, ◌≤◌, List, [], ◌∷◌, ◌++◌, length, get_or, take, drop, map, All, nat_eq, Bool, inl, inr, refl, sym, ap, subst, ◌∙◌, arith}
+-- Runs of elements, each at the key next to the one before: what they have at a key, and sums over the places of a
+-- span.
+use Rattle.std.proofs.Common.{◌≡◌, ℕ, zero, suc, ◌+◌, ◌<◌, ◌≤◌, List, [], ◌∷◌, ◌++◌, length, get_or, take, drop, map}
+use Rattle.std.proofs.Common.{All, nat_eq, inl, inr, refl, sym, ap, ◌∙◌, arith}
 use Rattle.std.specs.List.{range_with_len}
 use Rattle.std.specs.Simd.Lanes.{zip2}
 use Rattle.std.proofs.lemmas.Bool.{cases_eq, eq-eqb, ne_eqb}
 use Rattle.std.proofs.lemmas.List.{drop_more}
 use Rattle.std.proofs.lemmas.List.Elements.{All-head, All-tail}
-use Rattle.monoid_kit.proofs.Products.{product_by-same, only-product_by, only-is_element}
+use Rattle.monoid_kit.proofs.Products.{only-product_by, only-is_element}
 use Rattle.semiring_kit.specs.Semiring.{SemiringOn, IsSemiring}
 use Rattle.semiring_kit.specs.Total.{masked, total}
 use Rattle.semiring_kit.proofs.Sums.{mul-total, total-is_sound}
@@ -44,7 +46,8 @@ module _ {E : Type 0} {r : SemiringOn E} (laws : IsSemiring r) where
   run-zero x xs sound =
       ap (r.add x) (run-before (0 + 1) 0 xs (omega arith)) ∙ add-zero_right x sound
 
-  run-later : (k : ℕ) (x : E) (xs : List E) → r.is_sound (run_at r 0 xs k) → run_at r 0 (x ∷ xs) (suc k) ≡ run_at r 0 xs k
+  run-later : (k : ℕ) (x : E) (xs : List E) → r.is_sound (run_at r 0 xs k)
+      → run_at r 0 (x ∷ xs) (suc k) ≡ run_at r 0 xs k
   run-later k x xs sound =
       ap (λ t. r.add (masked r t x) (run_at r (0 + 1) xs (suc k))) (ne_eqb 0 (suc k) (λ same. absurd (omega arith)))
       ∙ ap (r.add r.zero) (run-next 0 (0 + 1) k xs (omega arith))
@@ -77,10 +80,13 @@ module _ {E : Type 0} {r : SemiringOn E} (laws : IsSemiring r) where
       lifted_from_first os xs k (omega arith) (All-tail r.is_sound o os olds_sound) later
       ∙ ap (r.add (get_or os k r.zero)) (sym (run-later k x xs (run-is_sound 0 k xs later)))
 
-  pub lifted-get_or : (to : ℕ) (olds xs : List E) (k : ℕ) → to + length xs ≤ length olds → All r.is_sound olds → All r.is_sound xs
-      → get_or (take to olds ++ (zip2 r.add (take (length xs) (drop to olds)) xs ++ drop (length xs) (drop to olds))) k r.zero
+  pub lifted-get_or : (to : ℕ) (olds xs : List E) (k : ℕ) → to + length xs ≤ length olds → All r.is_sound olds
+      → All r.is_sound xs
+      → get_or (take to olds ++ (zip2 r.add (take (length xs) (drop to olds)) xs ++ drop (length xs) (drop to olds))) k
+      r.zero
       ≡ r.add (get_or olds k r.zero) (run_at r to xs k)
-  lifted-get_or zero olds xs k within olds_sound xs_sound = lifted_from_first olds xs k (omega arith) olds_sound xs_sound
+  lifted-get_or zero olds xs k within olds_sound xs_sound =
+      lifted_from_first olds xs k (omega arith) olds_sound xs_sound
   lifted-get_or (suc to) [] xs k within olds_sound xs_sound = absurd (omega arith)
   lifted-get_or (suc to) (o ∷ os) xs zero within olds_sound xs_sound =
       sym (add-zero_right o (All-head r.is_sound o os olds_sound))
@@ -119,7 +125,8 @@ module _ {E : Type 0} {r : SemiringOn E} (laws : IsSemiring r) where
       → total r (λ i. f (low + i)) (range_with_len 0 n) ≡ total r f (range_with_len low n)
   total-moved f low n = by_shift 0 low n (omega arith)
     where
-      by_shift : (at from m : ℕ) → from ≡ low + at → total r (λ i. f (low + i)) (range_with_len at m) ≡ total r f (range_with_len from m)
+      by_shift : (at from m : ℕ) → from ≡ low + at
+          → total r (λ i. f (low + i)) (range_with_len at m) ≡ total r f (range_with_len from m)
       by_shift at from zero is = refl
       by_shift at from (suc m) is =
           ap (λ j. r.add (f j) (total r (λ i. f (low + i)) (range_with_len (at + 1) m))) (sym is)

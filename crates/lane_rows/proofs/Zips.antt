@@ -1,5 +1,6 @@
 -- Lemmas on lists that are joined place by place.
-use Rattle.std.proofs.Common.{◌≡◌, ℕ, zero, suc, ◌+◌, ◌<◌, ◌≤◌, List, [], ◌∷◌, ◌++◌, length, get_or, set, take, drop, map, All, refl, sym, ap, ◌∙◌, subst, add-one, append-nil, arith}
+use Rattle.std.proofs.Common.{◌≡◌, ℕ, zero, suc, ◌+◌, ◌<◌, ◌≤◌, List, [], ◌∷◌, ◌++◌, length, get_or, set, take, drop}
+use Rattle.std.proofs.Common.{map, All, refl, sym, ap, ◌∙◌, add-one, arith}
 use Rattle.std.specs.Simd.Lanes.{zip2}
 use Rattle.std.proofs.lemmas.List.Elements.{All-head, All-tail}
 
@@ -27,7 +28,8 @@ module _ {X Y : Type 0} (f : X → Y → X) where
   zip2-here i xs now ys d long within so_far =
       ap (λ zs. get_or zs i d) so_far ∙ get_or-zip2_front i xs ys d within (omega arith)
 
-  pub zip2-more : (i : ℕ) (xs now : List X) (ys : List Y) (d : X) (e : Y) (new : X) → length xs ≡ length ys → i < length xs
+  pub zip2-more : (i : ℕ) (xs now : List X) (ys : List Y) (d : X) (e : Y) (new : X) → length xs ≡ length ys
+      → i < length xs
       → now ≡ zip2 f (take i xs) (take i ys) ++ drop i xs → new ≡ f (get_or now i d) (get_or ys i e)
       → set now i new ≡ zip2 f (take (i + 1) xs) (take (i + 1) ys) ++ drop (i + 1) xs
   zip2-more i xs now ys d e new long within so_far is =
@@ -44,7 +46,8 @@ module _ {X Y : Type 0} (f : X → Y → X) where
   zip2-whole (suc i) [] ys long past = refl
   zip2-whole i (x ∷ xs) [] long past = absurd (omega arith)
   zip2-whole zero (x ∷ xs) (y ∷ ys) long past = absurd (omega arith)
-  zip2-whole (suc i) (x ∷ xs) (y ∷ ys) long past = ap (λ zs. f x y ∷ zs) (zip2-whole i xs ys (omega arith) (omega arith))
+  zip2-whole (suc i) (x ∷ xs) (y ∷ ys) long past =
+      ap (λ zs. f x y ∷ zs) (zip2-whole i xs ys (omega arith) (omega arith))
 
   pub zip2-all : (i : ℕ) (xs now : List X) (ys : List Y) → length xs ≡ length ys → length xs ≤ i
       → now ≡ zip2 f (take i xs) (take i ys) ++ drop i xs → now ≡ zip2 f xs ys
@@ -61,7 +64,8 @@ map-zip2 f g p q P same (x ∷ xs) (y ∷ ys) each =
     ∙ ap (λ es. g (p x) (q y) ∷ es) (map-zip2 f g p q P same xs ys (All-tail P y ys each))
 
 -- where the right items change nothing
-pub zip2-left : {X Y : Type 0} (f : X → Y → X) (xs : List X) (ys : List Y) → ((x : X) (y : Y) → f x y ≡ x) → length xs ≡ length ys
+pub zip2-left : {X Y : Type 0} (f : X → Y → X) (xs : List X) (ys : List Y) → ((x : X) (y : Y) → f x y ≡ x)
+    → length xs ≡ length ys
     → zip2 f xs ys ≡ xs
 zip2-left f [] ys same long = refl
 zip2-left f (x ∷ xs) [] same long = absurd (omega arith)

@@ -1,5 +1,5 @@
 -- Lanes, each of which shows an element of a semiring.
-use Rattle.std.specs.Prelude.{◌≤◌, ◌+◌, ℕ, List, All}
+use Rattle.std.specs.Prelude.{◌≤◌, ◌+◌, List, All}
 use Rattle.semiring_kit.specs.Semiring.{SemiringOn, IsGood, weight_bound}
 
 -- a lane that is sound, and shows a good element

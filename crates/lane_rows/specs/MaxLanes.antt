@@ -1,5 +1,6 @@
 -- Lanes of weights: the least number stands for no weight, and each other number for itself.
-use Rattle.std.specs.Prelude.{◌≢◌, ◌≤◌, ℤ, negsuc, ◌+ℤ◌, unsigned_abs, List, Option, Some, None, option_map, neg_ℤ, if◌then◌else◌}
+use Rattle.std.specs.Prelude.{◌≢◌, ◌≤◌, ℤ, negsuc, ◌+ℤ◌, unsigned_abs, List, Option, Some, None, option_map, neg_ℤ}
+use Rattle.std.specs.Prelude.{if◌then◌else◌}
 use Rattle.std.specs.Int.{int_max}
 use Rattle.std.specs.List.{fold}
 use Rattle.std.specs.Ordering.{int_eq}

@@ -1,5 +1,5 @@
 -- What holds of each row that fits.
-use Rattle.std.specs.Prelude.{ℕ, zero, suc, List, [], ◌∷◌, All, map}
+use Rattle.std.specs.Prelude.{ℕ, zero, suc, List, [], ◌∷◌, All}
 use Rattle.std.proofs.lemmas.List.Elements.{All-head, All-tail}
 use Rattle.semiring_kit.specs.Semiring.{SemiringOn, IsSemiring, IsGood}
 use Rattle.semiring_kit.proofs.Sums.{zero_is_good}
@@ -12,5 +12,6 @@ module _ {E L : Type 0} {r : SemiringOn E} (laws : IsSemiring r) (is_lane : L �
   good_at (x ∷ xs) zero good = (All-head (IsGoodLane r is_lane shows) x xs good).good
   good_at (x ∷ xs) (suc k) good = good_at xs k (All-tail (IsGoodLane r is_lane shows) x xs good)
 
-  pub shown_is_good : (size : ℕ) (row : List L) (k : ℕ) → FitsRow r is_lane shows size row → IsGood r (shown r shows row k)
+  pub shown_is_good : (size : ℕ) (row : List L) (k : ℕ) → FitsRow r is_lane shows size row
+      → IsGood r (shown r shows row k)
   shown_is_good size row k fits = good_at row k fits.are_good

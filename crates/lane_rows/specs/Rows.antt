@@ -12,12 +12,14 @@ abbrev pub shown : {E L : Type 0} → SemiringOn E → (L → E) → List L → 
 shown r shows row k = slice_index_or (map shows row) k r.zero
 
 -- the row has a lane for each key, each of them sound, and each shows a good element
-pub record FitsRow {E L : Type 0} (r : SemiringOn E) (is_lane : L → Type 0) (shows : L → E) (size : ℕ) (row : List L) : Type 0 where
+pub record FitsRow {E L : Type 0} (r : SemiringOn E) (is_lane : L → Type 0) (shows : L → E) (size : ℕ) (row : List L) :
+    Type 0 where
   pub has_size : length row ≡ size
   pub are_good : All (IsGoodLane r is_lane shows) row
 
 -- the new row is as long, has good lanes, and shows at each key the sum of what the old one shows and of what is added
-pub record IsLifted {E L : Type 0} (r : SemiringOn E) (is_lane : L → Type 0) (shows : L → E) (old new : List L) (added : ℕ → E) : Type 0 where
+pub record IsLifted {E L : Type 0} (r : SemiringOn E) (is_lane : L → Type 0) (shows : L → E) (old new : List L)
+    (added : ℕ → E) : Type 0 where
   pub same_length : length new ≡ length old
   pub are_good : All (IsGoodLane r is_lane shows) new
   pub values : (k : ℕ) → shown r shows new k ≡ r.add (shown r shows old k) (added k)

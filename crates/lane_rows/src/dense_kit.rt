@@ -1,7 +1,5 @@
 //! Maps that keep a row with a lane for each key. What a row shows is in specs/Rows.antt.
 
-ghost use Rattle.std.specs.Prelude.{◌≡◌, IfOk, replicate};
-
 use crate::lanes::Lanes;
 use crate::lift::Lift;
 use key_map::MapKit;
@@ -11,9 +9,10 @@ use std::alloc::{AllocError, Global};
 use std::sync::ledger::Ledger;
 use step_count::Steps;
 
-/// Maps that keep a row with a lane for each key, so that none counts as kept and no step is taken.
-/// A sum takes time in proportion to the number of keys. A convolution takes so much for each key that
-/// the left map has a value for, and memory for one list of runs at a time.
+/// Maps that keep a row with a lane for each key. No key counts as kept, and no step is taken.
+/// A sum takes time in proportion to the number of keys, and a convolution as much for each key that
+/// the left map has a value at: it lifts the right row run by run, and computes no product of keys.
+/// Besides the row that it gives, it takes memory for one list of runs at a time.
 #[derive(Drop)]
 pub struct DenseKit<S: Lanes, M: Monoid> {
     pub kit: S,
@@ -35,13 +34,15 @@ impl<S: Lanes, M: Monoid> MapKit for DenseKit<S, M> {
 
     ghost keys = { λ s. s.keys };
 
-    ghost fits = { λ s map. FitsRow (S.ring s.kit) (S.is_lane s.kit) (S.shows s.kit) (M.size s.keys) map.items };
+    ghost fits = { λ s map. FitsRow (S.ring s.kit) (S.is_lane s.kit) (S.shows s.kit)
+        (M.size s.keys) map.items };
 
     ghost value_at = { λ s map. shown (S.ring s.kit) (S.shows s.kit) map.items };
 
     ghost kept = { λ s map. 0 };
 
-    ghost value_is_good = { λ s map k fits. shown_is_good (S.laws s.kit) (S.is_lane s.kit) (S.shows s.kit) (M.size s.keys) map.items k fits };
+    ghost value_is_good = { λ s map k fits. shown_is_good (S.laws s.kit) (S.is_lane s.kit) (S.shows s.kit)
+        (M.size s.keys) map.items k fits };
 
     ghost few_kept = { λ s map fits. Prim.omega arith };
 

@@ -1,6 +1,7 @@
-//! Maps that keep a row with a lane for each key.
-//! What a kit must offer for that is in lanes.rt; max_lanes.rt, truth_lanes.rt and count_lanes.rt have
-//! it for the kits of numbers.
+//! Maps that keep a row with a lane for each key: dense_kit.rt, whose steps are in lift.rt.
+//! What a kit of values must offer for that is in lanes.rt. max_lanes.rt has lanes of weights, and
+//! max_plus.rt and min_plus.rt their kits; truth_lanes.rt and count_lanes.rt have lanes and kit.
+//! faces.rt has the kits of numbers over capped sums.
 #![tactic(auto)]
 
 mod count_lanes;

@@ -27,7 +27,7 @@ pub(crate) trait Lift: Drop {
 
     ghost times: { Self → ℕ → ℕ → ℕ };
 
-    // Adds the row to the other.
+    // Adds the other row to the row, key by key.
     fn add_row(
         &self,
         alloc: Global,

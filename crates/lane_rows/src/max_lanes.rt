@@ -1,6 +1,7 @@
 //! Lanes of weights, and what is done to rows of them. The meaning is in specs/MaxLanes.antt.
+//! The loops are plain ones, of which the compiler makes operations on vectors.
 
-ghost use Rattle.std.specs.Prelude.{◌≡◌, ◌≤◌, ℤ, negsuc, All, length, unsigned_abs};
+ghost use Rattle.std.specs.Prelude.{◌≡◌, ◌≤◌, All, length, unsigned_abs};
 ghost use Rattle.semiring_kit.specs.Semiring.{weight_bound};
 ghost use Rattle.lane_rows.specs.MaxLanes.{IsWithin, raised, lifted_max, greatest};
 

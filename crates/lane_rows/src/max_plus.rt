@@ -1,7 +1,5 @@
 //! The greatest weight by lanes.
 
-ghost use Rattle.std.specs.Prelude.{◌≡◌};
-
 use crate::lanes::Lanes;
 use crate::max_lanes::{ABSENT, greatest, lift_max};
 use semiring_kit::MaxPlus;

@@ -1,5 +1,6 @@
 -- Lemmas on lists of spans.
-use Rattle.std.proofs.Common.{◌≡◌, ℕ, ◌+◌, ◌-◌, ◌%◌, ◌<◌, ◌≤◌, List, [], ◌∷◌, ◌++◌, true, refl, sym, ap, subst, ◌∙◌, arith}
+use Rattle.std.proofs.Common.{◌≡◌, ℕ, ◌+◌, ◌-◌, ◌%◌, ◌<◌, ◌≤◌, List, [], ◌∷◌, ◌++◌, true, refl, sym, ap, subst, ◌∙◌}
+use Rattle.std.proofs.Common.{arith}
 use Rattle.std.proofs.Math.Nat.{add-mod_left, mod-eq_of_lt}
 use Rattle.monoid_kit.specs.declared.span.Span.{Span}
 use Rattle.monoid_kit.specs.Modular.{modular_sum}
@@ -14,13 +15,14 @@ pub AreSpans-same : (size low : ℕ) (move other : ℕ → ℕ) (spans : List Sp
     → AreSpans size move low spans → AreSpans size other low spans
 AreSpans-same size low move other [] same are = are
 AreSpans-same size low move other (x ∷ xs) same are =
-    let within = AreSpans-end size (low + x.len) move xs are.1 in
-    (record {
-      begins = are.0.begins;
-      some = are.0.some;
-      moves = λ i below. sym (same (low + i) (omega arith)) ∙ are.0.moves i below;
-    },
-    AreSpans-same size (low + x.len) move other xs same are.1)
+    let within = AreSpans-end size (low + x.len) move xs are.1 in (
+      record {
+        begins = are.0.begins;
+        some = are.0.some;
+        moves = λ i below. sym (same (low + i) (omega arith)) ∙ are.0.moves i below;
+      },
+      AreSpans-same size (low + x.len) move other xs same are.1,
+    )
 
 module _ (move : ℕ → ℕ) where
   -- one list of spans after another
@@ -36,7 +38,8 @@ module _ (move : ℕ → ℕ) where
   AreSpans-push low mid size xs x front last end = AreSpans-append low mid size xs (x ∷ []) front (last, sym end)
 
   -- one element alone
-  pub alone-IsSpan : (at : ℕ) (span : Span) → span.from ≡ at → span.to ≡ move at → span.len ≡ 1 → span.rises ≡ true → IsSpan move at span
+  pub alone-IsSpan : (at : ℕ) (span : Span) → span.from ≡ at → span.to ≡ move at → span.len ≡ 1 → span.rises ≡ true
+      → IsSpan move at span
   alone-IsSpan at span from to len rises = record {
     begins = from;
     some = omega arith;

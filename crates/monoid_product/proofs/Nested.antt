@@ -1,18 +1,20 @@
 -- Nested spans are the spans of the product.
-use Rattle.std.proofs.Common.{◌≡◌, ℕ, zero, suc, ◌+◌, ◌*◌, ◌/◌, ◌%◌, ◌-◌, ◌<◌, ◌≤◌, Bool, true, false, List, [], ◌∷◌, ◌++◌, length, get_or, take, drop, map, All, length-take, length-drop, cond, refl, sym, ap, subst, ◌∙◌, add_assoc, add-one, zero-mul, mul-one, arith}
+use Rattle.std.proofs.Common.{◌≡◌, ℕ, zero, suc, ◌+◌, ◌*◌, ◌/◌, ◌%◌, ◌-◌, ◌<◌, ◌≤◌, Bool, true, false, List, [], ◌∷◌}
+use Rattle.std.proofs.Common.{◌++◌, length, get_or, take, drop, map, All, length-take, length-drop, cond, refl, sym, ap}
+use Rattle.std.proofs.Common.{subst, ◌∙◌, add_assoc, add-one, zero-mul, mul-one, arith}
 use Rattle.std.specs.List.{flat_map, range_with_len}
 use Rattle.std.proofs.Math.Nat.{mul_comm, div-one}
 use Rattle.std.proofs.lemmas.List.{flat_map_more}
 use Rattle.std.proofs.lemmas.Slice.{first_rest}
 use Rattle.std.proofs.lemmas.Nat.{div-mul-add, mod-mul-add, mul-add-lt, div_below, mod_below}
 use Rattle.monoid_kit.specs.declared.span.Span.{Span}
-use Rattle.monoid_kit.specs.Spans.{moved, IsSpan, AreSpans}
+use Rattle.monoid_kit.specs.Spans.{moved, AreSpans}
 use Rattle.monoid_kit.proofs.Spans.{AreSpans-append, AreSpans-end, AreSpans-same}
 use Rattle.monoid_product.specs.declared.component.Component.{Component}
-use Rattle.monoid_product.specs.Component.{component_size, component_mul}
+use Rattle.monoid_product.specs.Component.{component_mul}
 use Rattle.monoid_product.specs.ComponentOf.{plain_component, plain_components}
 use Rattle.monoid_product.specs.ComponentLaws.{component-IsMonoid}
-use Rattle.monoid_product.specs.Product.{key_count, product_mul}
+use Rattle.monoid_product.specs.Product.{product_mul}
 use Rattle.monoid_product.specs.ProductLaws.{parts-IsMonoid}
 use Rattle.monoid_product.specs.Nested.{shifted, at_place, in_span, nested, AreBelow, IsWithin}
 use Rattle.monoid_product.proofs.Numbers.{times-div}
@@ -25,13 +27,15 @@ range-more lo (suc n) =
     ap (λ ks. lo ∷ ks) (range-more (lo + 1) n ∙ ap (λ k. range_with_len (lo + 1) n ++ k ∷ []) e))
 
 -- one place more
-pub flat_map-range_more : {A : Type 0} (f : ℕ → List A) (old mid new : List A) (n : ℕ) → mid ≡ old ++ flat_map f (range_with_len 0 n)
+pub flat_map-range_more : {A : Type 0} (f : ℕ → List A) (old mid new : List A) (n : ℕ)
+    → mid ≡ old ++ flat_map f (range_with_len 0 n)
     → new ≡ mid ++ f n → new ≡ old ++ flat_map f (range_with_len 0 (n + 1))
 flat_map-range_more f old mid new n so_far more =
     (let e : 0 + n ≡ n = omega arith in
     let last : range_with_len 0 (n + 1) ≡ range_with_len 0 n ++ n ∷ [] =
     ap (range_with_len 0) (add-one n) ∙ range-more 0 n ∙ ap (λ k. range_with_len 0 n ++ k ∷ []) e in
-    more ∙ ap (λ xs. xs ++ f n) so_far ∙ flat_map_more f old (range_with_len 0 n) n ∙ ap (λ ks. old ++ flat_map f ks) (sym last))
+    more ∙ ap (λ xs. xs ++ f n) so_far ∙ flat_map_more f old (range_with_len 0 n) n
+    ∙ ap (λ ks. old ++ flat_map f ks) (sym last))
 
 -- an element of the first component counts as often as the later components have keys
 pub digit-below : (to size later low : ℕ) → size * later ≤ 8192 → to < size → low < later → to * later + low < 8192
@@ -104,20 +108,22 @@ module _ (size later : ℕ) (high low : ℕ → ℕ) where
       → AreSpans (q * later + later) move (q * later + at) (map (shifted (q * later) (to * later)) spans)
   shifted-AreSpans q to at [] same are = ap (λ n. q * later + n) are
   shifted-AreSpans q to at (x ∷ xs) same are =
-      let within = AreSpans-end later (at + x.len) low xs are.1 in
-      (record {
-        begins = ap (λ n. q * later + n) are.0.begins;
-        some = are.0.some;
-        moves = λ i below.
-            let inside : at + i < later = omega arith in
-            ap move (add_assoc (q * later) at i)
-            ∙ move-at q (at + i) inside
-            ∙ ap (λ h. h * later + low (at + i)) same
-            ∙ ap (λ m. to * later + m) (are.0.moves i below)
-            ∙ sym (moved-shifted (q * later) (to * later) x i);
-      },
-      subst (λ n. AreSpans (q * later + later) move n (map (shifted (q * later) (to * later)) xs)) (sym (add_assoc (q * later) at x.len))
-      (shifted-AreSpans q to (at + x.len) xs same are.1))
+      let within = AreSpans-end later (at + x.len) low xs are.1 in (
+        record {
+          begins = ap (λ n. q * later + n) are.0.begins;
+          some = are.0.some;
+          moves = λ i below.
+              let inside : at + i < later = omega arith in
+              ap move (add_assoc (q * later) at i)
+              ∙ move-at q (at + i) inside
+              ∙ ap (λ h. h * later + low (at + i)) same
+              ∙ ap (λ m. to * later + m) (are.0.moves i below)
+              ∙ sym (moved-shifted (q * later) (to * later) x i);
+        },
+        subst (λ n. AreSpans (q * later + later) move n (map (shifted (q * later) (to * later)) xs))
+            (sym (add_assoc (q * later) at x.len))
+            (shifted-AreSpans q to (at + x.len) xs same are.1),
+      )
 
   module _ (inner : List Span) (inner_are : AreSpans later low 0 inner) where
     -- behind the digits of a span, from place i on
@@ -134,7 +140,8 @@ module _ (size later : ℕ) (high low : ℕ → ℕ) where
         shifted-AreSpans q (moved span i) 0 inner (ap high (sym same) ∙ moves i (omega arith)) inner_are in
         let first : q * later + 0 ≡ (begin + i) * later = omega (arith, ap (λ n. n * later) same) in
         let next : q * later + later ≡ (begin + (i + 1)) * later = grind (arith, ap (λ n. n * later) same) in
-        AreSpans-append move ((begin + i) * later) ((begin + (i + 1)) * later) ((begin + span.len) * later) (at_place later inner span i)
+        AreSpans-append move ((begin + i) * later) ((begin + (i + 1)) * later) ((begin + span.len) * later)
+        (at_place later inner span i)
         (flat_map (at_place later inner span) (range_with_len (i + 1) n))
         (subst (λ low. AreSpans ((begin + (i + 1)) * later) move low (at_place later inner span i)) first
         (subst (λ end. AreSpans end move (q * later + 0) (at_place later inner span i)) next here))
@@ -144,8 +151,10 @@ module _ (size later : ℕ) (high low : ℕ → ℕ) where
         → AreSpans (size * later) move (at * later) (nested later inner outer)
     nested-AreSpans at [] are = ap (λ n. n * later) are
     nested-AreSpans at (x ∷ xs) are =
-        AreSpans-append move (at * later) ((at + x.len) * later) (size * later) (in_span later inner x) (nested later inner xs)
-        (subst (λ n. AreSpans ((at + x.len) * later) move (n * later) (in_span later inner x)) (let e : at + 0 ≡ at = omega arith in e)
+        AreSpans-append move (at * later) ((at + x.len) * later) (size * later) (in_span later inner x)
+        (nested later inner xs)
+        (subst (λ n. AreSpans ((at + x.len) * later) move (n * later) (in_span later inner x))
+        (let e : at + 0 ≡ at = omega arith in e)
         (in_span-AreSpans x at 0 x.len are.0.begins (omega arith) are.0.moves))
         (nested-AreSpans (at + x.len) xs are.1)
 
@@ -161,7 +170,8 @@ pub parts_after-fewer : (parts : List Component) → 1 ≤ length parts → leng
 parts_after-fewer parts some = simp (length-take, length-drop) (omega arith)
 
 -- with no component there is one key
-pub none-AreSpans : (parts : List Component) (count a : ℕ) (spans : List Span) → length parts < 1 → count ≡ keys_of parts
+pub none-AreSpans : (parts : List Component) (count a : ℕ) (spans : List Span) → length parts < 1
+    → count ≡ keys_of parts
     → AreSpans 1 (λ key. 0) 0 spans → AreSpans count (product_mul (plain_components parts) a) 0 spans
 none-AreSpans [] count a spans none count_is are =
     subst (λ n. AreSpans n (product_mul (plain_components []) a) 0 spans) (sym count_is)
@@ -170,7 +180,8 @@ none-AreSpans (x ∷ xs) count a spans none count_is are = absurd (omega arith)
 
 -- the first component and the later ones
 module _ (parts rest : List Component) (first : Component) (whole : parts ≡ first ∷ rest) (count size later a : ℕ)
-    (count_is : count ≡ keys_of parts) (size_is : size ≡ size_of first) (later_is : later ≡ count / size) (is_key : a < count) where
+    (count_is : count ≡ keys_of parts) (size_is : size ≡ size_of first) (later_is : later ≡ count / size)
+    (is_key : a < count) where
   pub count-split : count ≡ size * keys_of rest
   count-split = count_is ∙ ap keys_of whole ∙ ap (λ n. n * keys_of rest) (sym size_is)
 
@@ -199,10 +210,12 @@ module _ (parts rest : List Component) (first : Component) (whole : parts ≡ fi
   rest_move : ℕ → ℕ
   rest_move b = product_mul (plain_components rest) (a % later) b
 
-  move-split : (b : ℕ) → first_move (b / later) * later + rest_move (b % later) ≡ product_mul (plain_components parts) a b
+  move-split : (b : ℕ)
+      → first_move (b / later) * later + rest_move (b % later) ≡ product_mul (plain_components parts) a b
   unfolding first_move rest_move
   move-split b =
-      ap (λ n. component_mul (plain_component first) (a / n) (b / n) * n + product_mul (plain_components rest) (a % n) (b % n)) later-keys
+      ap (λ n. component_mul (plain_component first) (a / n) (b / n) * n + product_mul (plain_components rest) (a % n)
+      (b % n)) later-keys
       ∙ ap (λ ps. product_mul (plain_components ps) a b) (sym whole)
 
   pub first-closed : (b : ℕ) → b < size → component_mul (plain_component first) (a / later) b < size
@@ -216,9 +229,11 @@ module _ (parts rest : List Component) (first : Component) (whole : parts ≡ fi
       ((parts-IsMonoid rest).product_is_element (a % later) b (subst (λ n. a % later < n) later-keys rest-key)
       (subst (λ n. b < n) later-keys b_in))
 
-  module _ (outer : List Span) (outer_are : AreSpans (size_of first) (component_mul (plain_component first) (a / later)) 0 outer) where
+  module _ (outer : List Span)
+      (outer_are : AreSpans (size_of first) (component_mul (plain_component first) (a / later)) 0 outer) where
     pub outer-AreSpans : AreSpans size (component_mul (plain_component first) (a / later)) 0 outer
-    outer-AreSpans = subst (λ n. AreSpans n (component_mul (plain_component first) (a / later)) 0 outer) (sym size_is) outer_are
+    outer-AreSpans =
+        subst (λ n. AreSpans n (component_mul (plain_component first) (a / later)) 0 outer) (sym size_is) outer_are
 
     -- where the later components have one key, that of the first component is the key
     pub outer-alone : later ≡ 1 → AreSpans count (product_mul (plain_components parts) a) 0 outer
@@ -226,23 +241,28 @@ module _ (parts rest : List Component) (first : Component) (whole : parts ≡ fi
     outer-alone one =
         let whole_size : size ≡ count = sym (mul-one size) ∙ ap (λ n. size * n) (sym one) ∙ count-times in
         subst (λ n. AreSpans n (product_mul (plain_components parts) a) 0 outer) whole_size
-        (AreSpans-same size 0 (component_mul (plain_component first) (a / later)) (product_mul (plain_components parts) a) outer
+        (AreSpans-same size 0 (component_mul (plain_component first) (a / later))
+        (product_mul (plain_components parts) a) outer
         (λ b b_in.
         let none : rest_move (b % later) < later = rest-closed (b % later) (mod_below b later later-some) in
         let high : first_move b ≡ first_move (b / later) * later =
         ap first_move (sym (div-one b) ∙ ap (λ n. b / n) (sym one))
         ∙ sym (mul-one (first_move (b / later))) ∙ ap (λ n. first_move (b / later) * n) (sym one) in
-        let both : first_move (b / later) * later + rest_move (b % later) ≡ first_move (b / later) * later = omega arith in
+        let both : first_move (b / later) * later + rest_move (b % later) ≡ first_move (b / later) * later = omega arith
+        in
         high ∙ sym both ∙ move-split b)
         outer-AreSpans)
 
-    pub product-AreSpans : (inner spans : List Span) → AreSpans later (product_mul (plain_components rest) (a % later)) 0 inner
+    pub product-AreSpans : (inner spans : List Span)
+        → AreSpans later (product_mul (plain_components rest) (a % later)) 0 inner
         → spans ≡ nested later inner outer → AreSpans count (product_mul (plain_components parts) a) 0 spans
     unfolding first_move rest_move
     product-AreSpans inner spans inner_are is =
         subst (λ n. AreSpans n (product_mul (plain_components parts) a) 0 spans) count-times
-        (AreSpans-same (size * later) 0 (λ b. first_move (b / later) * later + rest_move (b % later)) (product_mul (plain_components parts) a) spans
+        (AreSpans-same (size * later) 0 (λ b. first_move (b / later) * later + rest_move (b % later))
+        (product_mul (plain_components parts) a) spans
         (λ b b_in. move-split b)
         (subst (AreSpans (size * later) (λ b. first_move (b / later) * later + rest_move (b % later)) 0) (sym is)
-        (subst (λ low. AreSpans (size * later) (λ b. first_move (b / later) * later + rest_move (b % later)) low (nested later inner outer))
+        (subst (λ low. AreSpans (size * later) (λ b. first_move (b / later) * later + rest_move (b % later)) low
+        (nested later inner outer))
         (zero-mul later) (nested-AreSpans size later first_move rest_move inner inner_are 0 outer outer-AreSpans))))

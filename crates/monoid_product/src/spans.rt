@@ -54,6 +54,8 @@ fn one_span(alloc: Global) -> Result<Vec<Span>, AllocError>
     Ok(spans)
 }
 
+// The spans of all keys. `size` is that of the first component, whose spans are the outer ones;
+// the later components have `later` keys, and the inner spans.
 fn nested(
     alloc: Global,
     outer: &[Span],
@@ -62,7 +64,7 @@ fn nested(
     later: u32,
 ) -> Result<Vec<Span>, AllocError>
     requires few { size * later ≤ KEY_LIMIT }
-    requires outer { All (λ span. IsWithin (size) span) outer.now }
+    requires outer { All (λ span. IsWithin size span) outer.now }
     requires inner { AreBelow later inner.now }
     ensures { IfOk result (λ spans. spans.items ≡ nested later inner.now outer.now) }
 {
@@ -82,7 +84,7 @@ fn add_span(
     later: u32,
 ) -> Result<(), AllocError>
     requires few { size * later ≤ KEY_LIMIT }
-    requires outer { IsWithin (size) span }
+    requires outer { IsWithin size span }
     requires inner { AreBelow later inner.now }
     ensures { OnOk result (spans.new.items ≡ spans.old.items ++ in_span later inner.now span) }
 {
@@ -102,12 +104,7 @@ fn moved(span: Span, i: u32) -> u32
 }
 
 // Adds the spans, so much further on.
-fn add_shifted(
-    spans: &mut Vec<Span>,
-    inner: &[Span],
-    from: u32,
-    to: u32,
-) -> Result<(), AllocError>
+fn add_shifted(spans: &mut Vec<Span>, inner: &[Span], from: u32, to: u32) -> Result<(), AllocError>
     requires from_fits { All (λ span. from + span.from < 2 ^ 32) inner.now }
     requires to_fits { All (λ span. to + span.to < 2 ^ 32) inner.now }
     ensures { OnOk result (spans.new.items ≡ spans.old.items ++ map (shifted from to) inner.now) }

@@ -13,7 +13,8 @@ loop-i-preserved c =
     let x_fits : FitsSigned w64 x = search rules in
     let y_fits : FitsSigned w64 y = search rules in
     let fits : FitsSigned w64 c.raised.result = search rules in
-    zip2-more (raised (to_z w64 (of_z w64 c.args.weight))) i c.args.into.now c.loop-i.into c.args.from.now (pos 0) (pos 0) _
+    zip2-more (raised (to_z w64 (of_z w64 c.args.weight))) i c.args.into.now c.loop-i.into c.args.from.now (pos 0)
+    (pos 0) _
     c.requires.same_length (omega arith) c.loop-i.invariant
     (to_z-of_z w64 c.raised.result fits ∙ c.raised.ensures
     ∙ raised-read (to_z w64 (of_z w64 c.args.weight)) x y x_fits y_fits)

@@ -7,7 +7,8 @@ use Rattle.lane_rows.proofs.truth_lanes.lift_or.Goals as goal
 pub loop-i-preserved : goal.loop-i-preserved
 loop-i-preserved c =
     let i = c.loop-i.i in
-    let here = zip2-here either i c.args.into.now c.loop-i.into c.args.from.now 0 c.requires.same_length (omega arith) c.loop-i.invariant in
+    let here = zip2-here either i c.args.into.now c.loop-i.into c.args.from.now 0 c.requires.same_length (omega arith)
+    c.loop-i.invariant in
     let into_bit = subst (λ lane. lane ≤ 1) (sym here) (c.requires.into_are_bits i 0 (omega arith)) in
     zip2-more either i c.args.into.now c.loop-i.into c.args.from.now 0 0 _
     c.requires.same_length (omega arith) c.loop-i.invariant

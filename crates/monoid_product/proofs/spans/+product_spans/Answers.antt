@@ -1,24 +1,28 @@
-use Rattle.std.proofs.Common.{◌≡◌, ◌+◌, ◌*◌, ◌/◌, ◌%◌, ◌<◌, ◌≤◌, All, length, length-take, length-drop, refl, ap, subst, sym, ◌∙◌, arith}
+use Rattle.std.proofs.Common.{◌/◌, ◌%◌, All, refl, ap, subst}
+use Rattle.std.proofs.Common.{sym, ◌∙◌, arith}
 use Rattle.std.proofs.Math.Nat.{div-le_self}
 use Rattle.std.proofs.lemmas.Result.{IfOk-weaker}
-use Rattle.monoid_kit.specs.Spans.{AreSpans}
 use Rattle.monoid_product.specs.ComponentOf.{plain_component, plain_components}
 use Rattle.monoid_product.specs.Component.{component_mul}
 use Rattle.monoid_product.specs.Product.{product_mul}
 use Rattle.monoid_product.specs.Nested.{nested, AreBelow, IsWithin}
-use Rattle.monoid_product.proofs.Nested.{AreSpans-within, AreSpans-below, later-keys, first-digit, rest-key, first-closed, rest-closed, outer-alone, outer-AreSpans, product-AreSpans, parts_after, parts-split, parts_after-fewer, none-AreSpans}
+use Rattle.monoid_product.proofs.Nested.{AreSpans-within, AreSpans-below, later-keys, first-digit, rest-key}
+use Rattle.monoid_product.proofs.Nested.{first-closed, rest-closed, outer-alone, outer-AreSpans, product-AreSpans}
+use Rattle.monoid_product.proofs.Nested.{parts_after, parts-split, parts_after-fewer, none-AreSpans}
 use Rattle.monoid_product.proofs.spans.+product_spans.Goals as goal
 
 pub spans-requires : goal.spans-requires
 spans-requires t c =
     let parts = c.args.parts.now in
-    first-digit parts (parts_after parts) c.first-item.result (parts-split parts c.first-item.result (omega arith) c.first-item.is)
+    first-digit parts (parts_after parts) c.first-item.result
+    (parts-split parts c.first-item.result (omega arith) c.first-item.is)
     c.args.count c.size-size.result _ c.args.a c.requires.count c.size-size.ensures refl c.requires.is_key
 
 pub returns-then-later-eq1 : goal.returns-then-later-eq1
 returns-then-later-eq1 t c =
     let parts = c.args.parts.now in
-    outer-alone parts (parts_after parts) c.first-item.result (parts-split parts c.first-item.result (omega arith) c.first-item.is)
+    outer-alone parts (parts_after parts) c.first-item.result
+    (parts-split parts c.first-item.result (omega arith) c.first-item.is)
     c.args.count c.size-size.result _ c.args.a c.requires.count c.size-size.ensures refl c.requires.is_key
     c.in_ok-outer-in-len1-up.outer.items c.in_ok-outer-in-len1-up.ensures c.if-later-eq1.true
 
@@ -47,7 +51,8 @@ nested-requires-clause-outer t c =
     c.requires.count c.size-size.ensures refl c.requires.is_key)
     c.in_ok-outer-in-len1-up.outer.items
     (outer-AreSpans parts (parts_after parts) first whole c.args.count c.size-size.result later c.args.a
-    c.requires.count c.size-size.ensures refl c.requires.is_key c.in_ok-outer-in-len1-up.outer.items c.in_ok-outer-in-len1-up.ensures))
+    c.requires.count c.size-size.ensures refl c.requires.is_key c.in_ok-outer-in-len1-up.outer.items
+    c.in_ok-outer-in-len1-up.ensures))
 
 pub nested-requires-clause-inner : goal.nested-requires-clause-inner
 nested-requires-clause-inner t c =
@@ -65,7 +70,8 @@ nested-requires-clause-inner t c =
 pub returns-in-empty : goal.returns-in-empty
 returns-in-empty t c =
     IfOk-weaker c.one_span.result _ _
-    (λ spans are. none-AreSpans c.args.parts.now c.args.count c.args.a spans.items (omega arith) c.requires.count are) c.one_span.ensures
+    (λ spans are. none-AreSpans c.args.parts.now c.args.count c.args.a spans.items (omega arith) c.requires.count are)
+    c.one_span.ensures
 
 pub returns-in_ok-inner-in-len1-up : goal.returns-in_ok-inner-in-len1-up
 returns-in_ok-inner-in-len1-up t c =

@@ -1,4 +1,4 @@
-use Rattle.std.proofs.Common.{◌≡◌, ◌+◌, ◌*◌, ◌<◌, ◌++◌, ap, map, slice_index_or, subst, sym, ◌∙◌, arith}
+use Rattle.std.proofs.Common.{◌+◌, ◌*◌, ◌<◌, ◌++◌, ap, map, slice_index_or, ◌∙◌, arith}
 use Rattle.monoid_kit.specs.Spans.{moved}
 use Rattle.monoid_product.specs.Nested.{shifted, at_place}
 use Rattle.monoid_product.proofs.Nested.{digit-below, flat_map-range_more}
@@ -21,7 +21,8 @@ add_shifted-requires-clause-to_fits c k d below =
 pub loop-i-preserved : goal.loop-i-preserved
 loop-i-preserved c =
     let from = (c.args.span.from + c.loop-i.i) * c.args.later in
-    flat_map-range_more (at_place c.args.later c.args.inner.now c.args.span) c.args.spans.now.items c.loop-i.spans.items _
+    flat_map-range_more (at_place c.args.later c.args.inner.now c.args.span) c.args.spans.now.items c.loop-i.spans.items
+    _
     c.loop-i.i c.loop-i.invariant
     (c.in_ok-add_shifted.ensures
     ∙ ap (λ to. c.loop-i.spans.items ++ map (shifted from (to * c.args.later)) c.args.inner.now) c.moved-to.ensures)

@@ -8,4 +8,5 @@ invariant-loop-key g l =
     let ring = g.S.Semiring.ring l.self.kit in
     let shows = g.S.Lanes.shows l.self.kit in
     IsLifted ring (g.S.Lanes.is_lane l.self.kit) shows l.initial.row.items l.row.items
-    (keys_at ring (g.M.Monoid.size l.self.keys) (g.M.Monoid.mul l.self.keys) (shown ring shows l.a.items) (shown ring shows l.b.items) l.key)
+    (keys_at ring (g.M.Monoid.size l.self.keys) (g.M.Monoid.mul l.self.keys) (shown ring shows l.a.items)
+    (shown ring shows l.b.items) l.key)

@@ -10,7 +10,8 @@ lift_key-requires-clause-reaches_add_up g c =
     let kit = c.args.self.now.kit in
     let shows = g.S.Lanes.shows kit in
     subst (LanesAddUp (g.S.Semiring.ring kit) shows c.lane_of.result) (sym c.deref.ensures.value)
-    (alone-add_up (g.met.S.Semiring.laws kit) (g.S.Lanes.is_lane kit) shows c.lane_of.result c.args.map.now.items c.args.key c.args.elem.now
+    (alone-add_up (g.met.S.Semiring.laws kit) (g.S.Lanes.is_lane kit) shows c.lane_of.result c.args.map.now.items
+    c.args.key c.args.elem.now
     c.lane_of.ensures.shows c.requires.reaches_add_up)
 
 pub returns-clause-value : goal.returns-clause-value
@@ -24,10 +25,12 @@ returns-clause-value g c k =
     let map = c.args.map.now.items in
     let row = c.deref_mut.result.now in
     let lifted = subst (λ from. IsLifted ring is_lane shows row c.lift_key.new.row
-    (moved_at ring (shows c.lane_of.result) (g.M.Monoid.mul keys c.args.key) (g.M.Monoid.size keys) (shown ring shows from)))
+    (moved_at ring (shows c.lane_of.result) (g.M.Monoid.mul keys c.args.key) (g.M.Monoid.size keys)
+    (shown ring shows from)))
     c.deref.ensures.value c.in_ok-lift_key.ensures in
     ap (λ lanes. shown ring shows lanes k)
-    (written-whole c.in_ok-row.row.items c.lift_key.new.row c.in_ok-row.row.len (lifted.same_length ∙ c.deref_mut.ensures.len))
+    (written-whole c.in_ok-row.row.items c.lift_key.new.row c.in_ok-row.row.len
+    (lifted.same_length ∙ c.deref_mut.ensures.len))
     ∙ shifted-shown laws is_lane shows (g.M.Monoid.size keys) (g.M.Monoid.mul keys) (shown ring shows map)
     (λ j. shown-is_sound laws is_lane shows map j c.requires.fits.are_good)
     row c.lift_key.new.row c.lane_of.result c.args.key c.args.elem.now k

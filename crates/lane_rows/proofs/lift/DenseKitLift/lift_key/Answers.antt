@@ -1,9 +1,8 @@
-use Rattle.std.proofs.Common.{◌≡◌, ◌<◌, ◌≤◌, ◌+◌, ◌∷◌, [], drop, length, false, get_or, subst, sym, ap, ◌∙◌, arith}
+use Rattle.std.proofs.Common.{◌+◌, drop, false, get_or, subst, sym, arith}
 use Rattle.std.proofs.Math.ListN.{drop_of_length-le}
 use Rattle.std.proofs.lemmas.List.{drop_more}
 use Rattle.monoid_kit.specs.declared.span.Span.{Span}
 use Rattle.monoid_kit.specs.Spans.{AreSpans}
-use Rattle.lane_rows.specs.Lanes.{IsGoodLane}
 use Rattle.lane_rows.specs.Rows.{shown}
 use Rattle.lane_rows.proofs.Lifts.{next_span, lifting-start, lifting-more, lifting-end, shown-is_sound}
 use Rattle.lane_rows.proofs.lift.DenseKitLift.lift_key.Goals as goal
@@ -18,17 +17,21 @@ loop-span-init g c =
     let ring = g.S.Semiring.ring kit in
     let laws = g.met.S.Semiring.laws kit in
     let shows = g.S.Lanes.shows kit in
-    lifting-start laws (g.S.Lanes.is_lane kit) shows (shows c.args.by) c.requires.by_is_good.good.sound (g.M.Monoid.mul keys c.args.key)
-    (shown ring shows c.args.from.now) (λ k. shown-is_sound laws (g.S.Lanes.is_lane kit) shows c.args.from.now k c.requires.from_fits.are_good)
+    lifting-start laws (g.S.Lanes.is_lane kit) shows (shows c.args.by) c.requires.by_is_good.good.sound
+    (g.M.Monoid.mul keys c.args.key)
+    (shown ring shows c.args.from.now)
+    (λ k. shown-is_sound laws (g.S.Lanes.is_lane kit) shows c.args.from.now k c.requires.from_fits.are_good)
     (g.M.Monoid.size keys) c.args.row.now c.deref-span-items.result.now c.requires.row_fits.are_good
-    (subst (AreSpans (g.M.Monoid.size keys) (g.M.Monoid.mul keys c.args.key) 0) (sym c.deref-span-items.ensures.value) c.in_ok-spans.ensures)
+    (subst (AreSpans (g.M.Monoid.size keys) (g.M.Monoid.mul keys c.args.key) 0) (sym c.deref-span-items.ensures.value)
+    c.in_ok-spans.ensures)
 
 pub lift_span-requires : goal.lift_span-requires
 lift_span-requires g c =
     let keys = c.args.self.now.keys in
     let items = c.deref-span-items.result.now in
     let i = c.loop-span.span-index in
-    let next = next_span (g.M.Monoid.mul keys c.args.key) (g.M.Monoid.size keys) c.loop-span.invariant.low (get_or items i none)
+    let next = next_span (g.M.Monoid.mul keys c.args.key) (g.M.Monoid.size keys) c.loop-span.invariant.low
+    (get_or items i none)
     (drop i items) (drop (i + 1) items)
     (λ k below. (g.met.M.Monoid.laws keys).product_is_element c.args.key k c.requires.is_element below)
     (drop_more items i none c.loop-span-test.true) c.loop-span.invariant.left in
@@ -54,10 +57,14 @@ loop-span-preserved g c =
     let shows = g.S.Lanes.shows kit in
     let items = c.deref-span-items.result.now in
     let i = c.loop-span.span-index in
-    lifting-more laws (g.S.Lanes.is_lane kit) shows (shows c.args.by) c.requires.by_is_good.good.sound (g.M.Monoid.mul keys c.args.key)
-    (shown ring shows c.args.from.now) (λ k. shown-is_sound laws (g.S.Lanes.is_lane kit) shows c.args.from.now k c.requires.from_fits.are_good)
-    (g.M.Monoid.size keys) c.args.row.now c.loop-span.row c.lift_span.new.row (get_or items i none) (drop i items) (drop (i + 1) items)
-    c.requires.row_fits.are_good (drop_more items i none c.loop-span-test.true) c.loop-span.invariant c.lift_span.ensures
+    lifting-more laws (g.S.Lanes.is_lane kit) shows (shows c.args.by) c.requires.by_is_good.good.sound
+    (g.M.Monoid.mul keys c.args.key)
+    (shown ring shows c.args.from.now)
+    (λ k. shown-is_sound laws (g.S.Lanes.is_lane kit) shows c.args.from.now k c.requires.from_fits.are_good)
+    (g.M.Monoid.size keys) c.args.row.now c.loop-span.row c.lift_span.new.row (get_or items i none) (drop i items)
+    (drop (i + 1) items)
+    c.requires.row_fits.are_good (drop_more items i none c.loop-span-test.true) c.loop-span.invariant
+    c.lift_span.ensures
 
 pub returns : goal.returns
 returns g c =
@@ -68,6 +75,9 @@ returns g c =
     let shows = g.S.Lanes.shows kit in
     let items = c.deref-span-items.result.now in
     let i = c.loop-span.span-index in
-    lifting-end laws (g.S.Lanes.is_lane kit) shows (shows c.args.by) c.requires.by_is_good.good.sound (g.M.Monoid.mul keys c.args.key)
-    (shown ring shows c.args.from.now) (λ k. shown-is_sound laws (g.S.Lanes.is_lane kit) shows c.args.from.now k c.requires.from_fits.are_good)
-    (g.M.Monoid.size keys) c.args.row.now c.loop-span.row (drop i items) (drop_of_length-le items c.loop-span-test.false) c.loop-span.invariant
+    lifting-end laws (g.S.Lanes.is_lane kit) shows (shows c.args.by) c.requires.by_is_good.good.sound
+    (g.M.Monoid.mul keys c.args.key)
+    (shown ring shows c.args.from.now)
+    (λ k. shown-is_sound laws (g.S.Lanes.is_lane kit) shows c.args.from.now k c.requires.from_fits.are_good)
+    (g.M.Monoid.size keys) c.args.row.now c.loop-span.row (drop i items)
+    (drop_of_length-le items c.loop-span-test.false) c.loop-span.invariant

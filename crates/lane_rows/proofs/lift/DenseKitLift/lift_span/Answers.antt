@@ -3,7 +3,8 @@ use Rattle.semiring_kit.specs.Semiring.{weight_bound}
 use Rattle.std.proofs.lemmas.List.Elements.{All-cons, All-nil, All-take, All-drop}
 use Rattle.lane_rows.specs.Lanes.{IsGoodLane}
 use Rattle.lane_rows.specs.Rows.{shown, span_at}
-use Rattle.lane_rows.proofs.Lifts.{IsLifted-same, span-rising, span-folded, sum-good, sum-adds_up, last_below, first_below}
+use Rattle.lane_rows.proofs.Lifts.{IsLifted-same, span-rising, span-folded, sum-good, sum-adds_up, last_below}
+use Rattle.lane_rows.proofs.Lifts.{first_below}
 use Rattle.lane_rows.proofs.lift.DenseKitLift.lift_span.Goals as goal
 
 pub lift_run-requires-clause-in_row : goal.lift_run-requires-clause-in_row
@@ -14,7 +15,8 @@ lift_run-requires-clause-in_row g c =
 
 pub lift_run-requires-else-span-clause-in_row : goal.lift_run-requires-else-span-clause-in_row
 lift_run-requires-else-span-clause-in_row g c =
-    first_below c.args.span (length c.args.row.now) c.requires.some c.if-span.false c.requires.in_row
+    let below = first_below c.args.span (length c.args.row.now) c.requires.some c.if-span.false c.requires.in_row in
+    omega arith
 
 pub lift_run-requires-else-span-clause-from_is_good :
     goal.lift_run-requires-else-span-clause-from_is_good
@@ -27,7 +29,8 @@ lift_run-requires-else-span-clause-from_is_good g c =
     let lanes = take len (drop span.from c.args.from.now) in
     All-cons good c.sum_of-sum.result []
     (sum-good laws (g.S.Lanes.is_lane kit) (g.S.Lanes.shows kit) lanes c.sum_of-sum.result
-    (All-take good len (drop span.from c.args.from.now) (All-drop good span.from c.args.from.now c.requires.from_is_good))
+    (All-take good len (drop span.from c.args.from.now)
+    (All-drop good span.from c.args.from.now c.requires.from_is_good))
     c.sum_of-sum.ensures.is_lane c.sum_of-sum.ensures.shows)
     (All-nil good)
 
@@ -43,8 +46,10 @@ lift_run-requires-else-span-clause-reaches_add_up g c =
     let len = span.from + span.len - span.from in
     sum-adds_up (g.met.S.Semiring.laws kit) (g.S.Lanes.is_lane kit) shows c.args.by
     (take len (drop span.from c.args.from.now)) c.sum_of-sum.result c.requires.by_is_good
-    (All-take good len (drop span.from c.args.from.now) (All-drop good span.from c.args.from.now c.requires.from_is_good))
-    (All-take add_up len (drop span.from c.args.from.now) (All-drop add_up span.from c.args.from.now c.requires.reaches_add_up))
+    (All-take good len (drop span.from c.args.from.now)
+    (All-drop good span.from c.args.from.now c.requires.from_is_good))
+    (All-take add_up len (drop span.from c.args.from.now)
+    (All-drop add_up span.from c.args.from.now c.requires.reaches_add_up))
     c.sum_of-sum.ensures.shows
 
 pub returns-then-span : goal.returns-then-span
@@ -58,7 +63,8 @@ returns-then-span g c =
     let within = c.requires.in_from in
     IsLifted-same (g.met.S.Semiring.laws kit) (g.S.Lanes.is_lane kit) shows c.args.row.now c.lift_run.new.row
     _ (span_at ring x span (shown ring shows c.args.from.now))
-    (λ k. span-rising (g.met.S.Semiring.laws kit) (g.S.Lanes.is_lane kit) shows x span c.args.from.now (span.from + span.len - span.from) k
+    (λ k. span-rising (g.met.S.Semiring.laws kit) (g.S.Lanes.is_lane kit) shows x span c.args.from.now
+    (span.from + span.len - span.from) k
     (omega arith) (omega arith) c.if-span.true)
     c.lift_run.ensures
 
@@ -72,7 +78,8 @@ returns-else-span g c =
     let within = c.requires.in_from in
     IsLifted-same (g.met.S.Semiring.laws kit) (g.S.Lanes.is_lane kit) shows c.args.row.now c.lift_run-else-span.new.row
     _ (span_at ring x span (shown ring shows c.args.from.now))
-    (λ k. span-folded (g.met.S.Semiring.laws kit) (g.S.Lanes.is_lane kit) shows x span c.args.from.now c.sum_of-sum.result
+    (λ k. span-folded (g.met.S.Semiring.laws kit) (g.S.Lanes.is_lane kit) shows x span c.args.from.now
+    c.sum_of-sum.result
     (span.from + span.len - span.from) k (omega arith) (omega arith) c.if-span.false c.requires.by_is_good.good.sound
     c.requires.from_is_good c.sum_of-sum.ensures.shows)
     c.lift_run-else-span.ensures
