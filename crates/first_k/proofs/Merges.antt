@@ -1,14 +1,14 @@
 -- Two lists in order, merged, are the first k of both; and a merge taken item by item.
-use Rattle.std.proofs.Common.{◌≡◌, ℕ, zero, suc, ◌+◌, ◌-◌, ◌<◌, ◌≤◌, false, Option, Some, List, [], ◌∷◌, ◌++◌, length}
+use Rattle.std.proofs.Common.{◌≡◌, ℕ, zero, suc, ◌+◌, ◌-◌, ◌<◌, ◌≤◌, false, Option, Some, List, [], ◌∷◌, ◌++◌}
 use Rattle.std.proofs.Common.{take, slice_get, refl, sym, ap, subst, ◌∙◌, arith, append_assoc}
 use Rattle.std.proofs.lemmas.List.{append-nil}
 use Rattle.std.specs.declared.cmp.Ordering.{Ordering}
 use Rattle.std.specs.Ordering.{is_gt}
 use Rattle.std.proofs.lemmas.Cmp.{upto}
 use Rattle.witness_order.specs.Rankings.{IsRanking}
-use Rattle.witness_order.specs.Ranked.{ranked, first_of, Leads, Ascends, IsRankedWithin}
+use Rattle.witness_order.specs.Ranked.{ranked, first_of, Leads, Ascends}
 use Rattle.witness_order.proofs.Placed.{by_test, not_after_back}
-use Rattle.witness_order.proofs.Firsts.{first_of-comm, first_of-same, leads-placed, placed-leads, ranked-same}
+use Rattle.witness_order.proofs.Firsts.{first_of-comm, leads-placed, placed-leads, ranked-same}
 use Rattle.first_k.specs.declared.sum.Source.{Source}
 use Rattle.first_k.specs.declared.sum.Source.TheVariants.{Left, Right, End}
 use Rattle.first_k.specs.Merged.{next_of, merged}
@@ -139,14 +139,3 @@ module _ {E : Type 0} (cmp : E → E → Ordering) (order : IsRanking cmp) where
       let leads_right : LeadsAll cmp x (y ∷ ys) = LeadsAll-Ascends x (y ∷ ys) not_after right in
       rw not_after (ap (λ l. x ∷ l) (merged-first_of k xs (y ∷ ys) left.1 right))
       ∙ sym (first_of-first k x (xs ++ (y ∷ ys)) (LeadsAll-append cmp x xs (y ∷ ys) leads_left leads_right)))
-
-  -- a sum with an empty list is the other one
-
-  pub first_of-none_left : (k : ℕ) (xs ys : List E) → length xs ≡ 0 → IsRankedWithin cmp k ys
-      → ys ≡ first_of cmp k (xs ++ ys)
-  first_of-none_left k [] ys none ranked = sym (first_of-same cmp order k ys ranked)
-  first_of-none_left k (x ∷ xs) ys none ranked = absurd (omega arith)
-
-  pub first_of-none_right : (k : ℕ) (xs ys : List E) → length ys ≡ 0 → IsRankedWithin cmp k xs
-      → xs ≡ first_of cmp k (xs ++ ys)
-  first_of-none_right k xs ys none ranked = first_of-none_left k ys xs none ranked ∙ first_of-comm cmp order k ys xs

@@ -1,18 +1,19 @@
 -- The place of an item in a list in order, and what comes of a list whose first k items it comes after.
 use Rattle.std.proofs.Common.{◌≡◌, ℕ, zero, suc, ◌-◌, ◌<◌, ◌≤◌, true, false, List, [], ◌∷◌, ◌++◌, length, map}
-use Rattle.std.proofs.Common.{take, drop, get_or, refl, sym, ap, ◌∙◌, arith}
+use Rattle.std.proofs.Common.{take, drop, get_or, refl, sym, ap, subst, ◌∙◌, arith}
 use Rattle.std.specs.List.{insert, All}
+use Rattle.std.proofs.lemmas.List.{append-nil, take_all}
 use Rattle.std.proofs.lemmas.List.Elements.{All-append, All-take, All-drop, All-cons}
 use Rattle.std.specs.declared.cmp.Ordering.{Ordering}
 use Rattle.std.specs.Ordering.{is_gt}
 use Rattle.std.proofs.lemmas.Cmp.{upto, tied_itself}
 use Rattle.witness_order.specs.Rankings.{IsRanking}
-use Rattle.witness_order.specs.Ranked.{placed, ranked, first_of, Ascends}
+use Rattle.witness_order.specs.Ranked.{placed, ranked, first_of, Ascends, IsRankedWithin}
 use Rattle.witness_order.proofs.Placed.{by_test, placed_all, placed-after, placed-before, take-placed}
 use Rattle.witness_order.proofs.Placed.{take-placed_all, ranked-append, after_later}
-use Rattle.witness_order.proofs.Firsts.{first_of-comm}
+use Rattle.witness_order.proofs.Firsts.{first_of-comm, first_of-same}
 use Rattle.witness_order.proofs.Meanings.{leads_all}
-use Rattle.first_k.proofs.Merges.{LeadsAll}
+use Rattle.first_k.proofs.Merges.{LeadsAll, LeadsAll-Ascends}
 
 module _ {X Y : Type 0} (f : X → Y) where
   pub map-insert : (xs : List X) (place : ℕ) (x : X) → map f (insert xs place x) ≡ insert (map f xs) place (f x)
@@ -118,3 +119,30 @@ module _ {E : Type 0} (cmp : E → E → Ordering) (order : IsRanking cmp) where
   pub not_after_behind : (x y z : E) → is_gt (cmp y z) ≡ false → is_gt (cmp x y) ≡ false
       → is_gt (cmp x z) ≡ false
   not_after_behind x y z in_order not_after = upto order.total x y z not_after in_order
+
+  -- a list in order is the first k of itself and of what comes behind
+
+  pub first_of-alone : (k : ℕ) (xs ys : List E) → length ys ≡ 0 → IsRankedWithin cmp k xs
+      → xs ≡ first_of cmp k (xs ++ ys)
+  first_of-alone k xs [] none ranked =
+      sym (ap (first_of cmp k) (append-nil xs) ∙ first_of-same cmp order k xs ranked)
+  first_of-alone k xs (y ∷ ys) none ranked = absurd (omega arith)
+
+  pub first_of-full : (k : ℕ) (xs ys : List E) (y x : E) → k ≤ length xs → 1 ≤ k → 0 < length ys
+      → y ≡ get_or ys 0 y → x ≡ get_or xs (k - 1) x → is_gt (cmp y x) ≡ true
+      → IsRankedWithin cmp k xs → Ascends cmp ys → xs ≡ first_of cmp k (xs ++ ys)
+  first_of-full k xs [] y x full some some_right y_is x_is after ranked ascends = absurd (omega arith)
+  first_of-full k xs (z ∷ ys) y x full some some_right y_is x_is after ranked ascends =
+      let same : first_of cmp k xs ≡ xs = first_of-same cmp order k xs ranked in
+      let after_last : is_gt (cmp z (get_or xs (k - 1) x)) ≡ true =
+      subst (λ v. is_gt (cmp v (get_or xs (k - 1) x)) ≡ true) y_is
+      (subst (λ v. is_gt (cmp y v) ≡ true) x_is after) in
+      let leads : LeadsAll cmp z (z ∷ ys) =
+      (ap is_gt (tied_itself order.total z), LeadsAll-Ascends cmp order z ys ascends.0 ascends.1) in
+      sym (first_of-past k xs (z ∷ ys) z x (subst (λ l. k ≤ length l) (sym same) full)
+      (λ i below.
+      subst (λ l. is_gt (cmp z (get_or l i x)) ≡ true) (sym same)
+      (after_before z (get_or xs i x) (get_or xs (k - 1) x)
+      (ascends_far xs ranked.ordered i (k - 1) x (omega arith) (omega arith)) after_last))
+      leads
+      ∙ ap (take k) same ∙ take_all k xs ranked.few)

@@ -6,7 +6,7 @@ use crate::firsts::Firsts;
 use crate::product::product_of;
 use crate::queue::Lent;
 use crate::ranked::Ranked;
-use crate::sum::sum_of;
+use crate::sum::{is_sum, sum_of};
 use semiring_kit::Semiring;
 use shape_gen::Mark;
 use std::alloc::{AllocError, Global};
@@ -84,21 +84,21 @@ where
         sum_of_lent(alloc, &self.ranked, self.k as usize, a.items(), b.items())
     }
 
-    /// Compares at most k times, and moves at most k candidates. None is copied, and none looked at where one
-    /// of the lists is empty.
+    /// Compares at most k + 2 times, and copies no candidate. Where one list is all of the sum, as where the other
+    /// is empty or comes after it, none is moved.
     fn sum(
         &self,
         alloc: Global,
         a: Firsts<R::Item>,
         b: Firsts<R::Item>,
     ) -> Result<Firsts<R::Item>, AllocError> {
-        if a.items().is_empty() {
-            return Ok(b);
-        }
-        if b.items().is_empty() {
+        let k = self.k as usize;
+        if is_sum(&self.ranked, k, a.items(), b.items()) {
             return Ok(a);
         }
-        let k = self.k as usize;
+        if is_sum(&self.ranked, k, b.items(), a.items()) {
+            return Ok(b);
+        }
         sum_of(alloc, &self.ranked, k, a.into_queue(), b.into_queue())
     }
 

@@ -1,7 +1,8 @@
 //! Sums of candidates in order. How they take their candidates is in specs/Merged.antt.
-ghost use Rattle.std.specs.Prelude.{◌≡◌, ◌++◌, IfOk};
+ghost use Rattle.std.specs.Prelude.{◌≡◌, ◌≤◌, true, ◌++◌, IfOk};
 ghost use Rattle.std.specs.Option.{option_copied};
-ghost use Rattle.witness_order.specs.Ranked.{first_of, Ascends};
+ghost use Rattle.std.specs.Ordering.{is_gt};
+ghost use Rattle.witness_order.specs.Ranked.{first_of, Ascends, IsRankedWithin};
 ghost use Rattle.first_k.specs.Merged.{next_of};
 
 use crate::firsts::Firsts;
@@ -41,6 +42,23 @@ pub(crate) fn sum_of<R: Ranked, Q: Queue<Item = R::Item>>(
     Ok(Firsts::of(sum))
 }
 
+/// Whether all of a, and nothing of b, is surely the first k of both: where b is empty, and where a has k candidates
+/// and b comes after them. At most one comparison.
+pub(crate) fn is_sum<R: Ranked>(ranked: &R, k: usize, a: &[R::Item], b: &[R::Item]) -> bool
+    requires some { 1 ≤ k }
+    requires left_is_ranked { IsRankedWithin (R.order ranked.now) k a.now }
+    requires right_is_ranked { IsRankedWithin (R.order ranked.now) k b.now }
+    ensures { result ≡ true → a.now ≡ first_of (R.order ranked.now) k (a.now ++ b.now) }
+{
+    if b.is_empty() {
+        return true;
+    }
+    if a.len() < k {
+        return false;
+    }
+    comes_after(ranked, &b[0], &a[k - 1])
+}
+
 // The queue whose first candidate is next.
 fn next_source<R: Ranked>(ranked: &R, a: Option<&R::Item>, b: Option<&R::Item>) -> Source
     ensures { result ≡ next_of (R.order ranked.now) (option_copied a.entry) (option_copied b.entry) }
@@ -50,11 +68,18 @@ fn next_source<R: Ranked>(ranked: &R, a: Option<&R::Item>, b: Option<&R::Item>) 
         (Some(_), None) => Source::Left,
         (None, Some(_)) => Source::Right,
         (Some(x), Some(y)) => {
-            if ranked.compare(x, y) == Ordering::Greater {
+            if comes_after(ranked, x, y) {
                 Source::Right
             } else {
                 Source::Left
             }
         }
     }
+}
+
+// Whether a comes after b.
+fn comes_after<R: Ranked>(ranked: &R, a: &R::Item, b: &R::Item) -> bool
+    ensures { result ≡ is_gt (R.order ranked.now a.now b.now) }
+{
+    ranked.compare(a, b) == Ordering::Greater
 }
