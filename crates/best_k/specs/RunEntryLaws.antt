@@ -1,5 +1,5 @@
 -- The order of run entries is a ranking, and joining them keeps it.
-use Rattle.std.proofs.Common.{ℕ, ◌≤◌, Bool, ℤ, unsigned_abs, [], ◌∷◌, refl}
+use Rattle.std.proofs.Common.{◌≤◌, Bool, ℤ, unsigned_abs, [], ◌∷◌, refl}
 use Rattle.shape_gen.specs.declared.mark.Mark.{Mark}
 use Rattle.witness_order.specs.Rankings.{IsRanking, KeepsRanking}
 use Rattle.witness_order.specs.Before.{no_marks}

@@ -1,6 +1,6 @@
 -- Entries of any form that are seen as the total and the marks of a candidate: their order is a ranking, and
 -- joining them keeps it.
-use Rattle.std.proofs.Common.{◌≡◌, ℕ, ◌≤◌, ◌+◌, Bool, ℤ, ◌+ℤ◌, unsigned_abs, List, [], ◌∷◌, refl, sym, ap}
+use Rattle.std.proofs.Common.{◌≡◌, ℕ, ◌≤◌, ◌+◌, Bool, ℤ, ◌+ℤ◌, unsigned_abs, List, [], ◌∷◌, sym, ap}
 use Rattle.std.proofs.Common.{◌∙◌, arith}
 use Rattle.std.proofs.lemmas.Int.{ints}
 use Rattle.std.proofs.lemmas.Cmp.{on_total}

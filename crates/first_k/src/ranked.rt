@@ -11,7 +11,7 @@ use std::alloc::{AllocError, Global};
 use std::cmp::Ordering;
 
 /// Candidates in an order, that can be joined: what the first k of a list are taken of.
-/// A refusal is for want of memory alone.
+/// A refusal is for want of memory alone. Where `FirstK` is to be a semiring, items are also `Send + Sync`.
 pub trait Ranked: Drop {
     type Item: Drop;
 

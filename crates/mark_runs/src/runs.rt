@@ -13,7 +13,7 @@ use std::cmp::Ordering;
 use std::marker::Model;
 use witness_order::Witness;
 
-// The most marks that are counted. As many take more memory than there is, once each stands by itself.
+// The most marks that are counted. No memory holds as many one by one.
 const MOST_MARKS: u64 = 9223372036854775807;
 
 /// The marks of a candidate as runs, seen as the list of the marks. Up to two runs take no memory of their own.
@@ -77,7 +77,8 @@ impl Runs {
     }
 
     /// The marks of a, and then those of b. Where b goes on with the next row and the same label, the last run
-    /// of a and the first of b become one. Refuses only for want of memory, as for more marks than can be counted.
+    /// of a and the first of b become one. Refuses only for want of memory, and takes more marks than it can count,
+    /// 2 ^ 63 or more, for that.
     pub fn joined(alloc: Global, a: &Runs, b: &Runs) -> Result<Runs, AllocError>
         ensures { IfOk result (λ runs. runs ≡ a.now ++ b.now) }
     {
