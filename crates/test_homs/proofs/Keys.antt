@@ -22,7 +22,8 @@ use Rattle.gta_meaning.specs.InRange.{IsInRange, IsMarkInRange}
 use Rattle.test_homs.specs.Hom.{Hom, IsHomOf, letter_product}
 use Rattle.test_homs.specs.Homs.{PlainTests, accepts}
 use Rattle.test_homs.specs.Homs as homs
-use Rattle.test_homs.specs.Joined.{AreJoinable, HasLetters, components, digits_at, key_at, all_accept, key_accepted, joined}
+use Rattle.test_homs.specs.Joined.{AreJoinable, HasLetters, components, digits_at}
+use Rattle.test_homs.specs.Joined.{key_at, all_accept, key_accepted, joined}
 use Rattle.test_homs.specs.Prepared.{PlainPrepared, prepared_of}
 use Rattle.test_homs.proofs.Letters.{letter-at, letter-below, length-letters_of, accept-at}
 
