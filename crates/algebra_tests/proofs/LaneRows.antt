@@ -1,11 +1,8 @@
 -- What small rows of weights reach.
-use Rattle.std.proofs.Common.{◌≡◌, ◌≢◌, ◌≤◌, ℕ, zero, suc, ℤ, List, [], ◌∷◌, All, unsigned_abs, Bool, true, false}
-use Rattle.std.proofs.Common.{nat_eq, inl, inr, ap, arith}
+use Rattle.std.proofs.Common.{◌≢◌, ◌≤◌, ℕ, zero, suc, ℤ, List, [], ◌∷◌, All, unsigned_abs}
+use Rattle.std.proofs.Common.{inl, inr, ap, arith}
 use Rattle.std.proofs.lemmas.List.Elements.{All-head, All-tail}
 use Rattle.semiring_kit.specs.MaxPlus.{max_plus}
-use Rattle.semiring_kit.specs.Semiring.{SemiringOn, IsSemiring}
-use Rattle.semiring_kit.specs.Total.{masked}
-use Rattle.key_map.specs.Maps.{alone}
 use Rattle.lane_rows.specs.MaxLanes.{absent, weight_of_lane}
 use Rattle.lane_rows.specs.Rows.{shown}
 use Rattle.lane_rows.proofs.MaxLanes.{cases_absent, weight-absent, weight-present}

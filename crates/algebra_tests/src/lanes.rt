@@ -167,7 +167,8 @@ fn sums_of_lanes(rt: HostRuntime) {
 
 // Whether there are four lanes, each absent or small.
 fn is_small(lanes: &[i64]) -> bool
-    ensures { IsTrue result → (length lanes.now ≡ 4) × All (λ lane. lane ≢ absent → unsigned_abs lane ≤ 1000) lanes.now }
+    ensures { IsTrue result → (length lanes.now ≡ 4)
+        × All (λ lane. lane ≢ absent → unsigned_abs lane ≤ 1000) lanes.now }
 {
     lanes.len() == 4
         && lanes
