@@ -1,5 +1,5 @@
-//! Tests of the crates of meaning and algebra, a file for each crate. They show what no clause says: worked values, each
-//! call once with ample memory, each generic call at concrete types.
+//! Tests of the crates of meaning and algebra, a file for each crate. They show what no clause says: worked values,
+//! each call once with ample memory, each generic call at concrete types.
 //! They stand in a crate of their own, since a crate with tests is proved twice.
 #![tactic(auto)]
 
