@@ -20,7 +20,7 @@ fn printed(alloc: Global, end: Result<Vec<u8>, JobEnd>) -> Result<Vec<u8>, Fail>
 }
 
 /// What a job prints: its report, or the line of its refusal.
-fn told<R: Threads + Abort + Sync>(
+pub(crate) fn told<R: Threads + Abort + Sync>(
     rt: &R,
     alloc: Global,
     input: &[u8],
