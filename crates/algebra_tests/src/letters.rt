@@ -195,6 +195,26 @@ fn odd_labels(alloc: Global) -> Result<Test, AllocError>
     })
 }
 
+// A specification with this table, and these tests in this order.
+fn spec_of_two(
+    alloc: Global,
+    table: Table,
+    first: Test,
+    second: Test,
+) -> Result<Checked, AllocError>
+    requires table { IsTableWithin (plain_named table) }
+    requires first { IsTestWithin 1 2 2 (plain_named table ∷ []) (plain_test first) }
+    requires second { IsTestWithin 1 2 2 (plain_named table ∷ []) (plain_test second) }
+    ensures columns { IfOk result (λ checked. length checked.columns ≡ 1) }
+{
+    let mut tables = Vec::new(alloc);
+    tables.push(table)?;
+    let mut tests = Vec::new(alloc);
+    tests.push(first)?;
+    tests.push(second)?;
+    spec_with(alloc, tables, tests)
+}
+
 // sum v <= bound, and an odd number of labels B; in this order or the other way round
 fn summed_and_folded(
     alloc: Global,
@@ -212,17 +232,11 @@ fn summed_and_folded(
     };
     let sum = Test::Sum { measure: V, check };
     let fold = odd_labels(alloc)?;
-    let mut tables = Vec::new(alloc);
-    tables.push(table)?;
-    let mut tests = Vec::new(alloc);
     if sum_first {
-        tests.push(sum)?;
-        tests.push(fold)?;
+        spec_of_two(alloc, table, sum, fold)
     } else {
-        tests.push(fold)?;
-        tests.push(sum)?;
+        spec_of_two(alloc, table, fold, sum)
     }
-    spec_with(alloc, tables, tests)
 }
 
 // turned mod 3 = 2
