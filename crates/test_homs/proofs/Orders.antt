@@ -8,7 +8,8 @@ use Rattle.std.proofs.Math.Bool.{and_assoc, and_comm, and-true}
 use Rattle.std.proofs.Math.ListN.{set, get_or-map}
 use Rattle.std.proofs.Math.Nat.{mul_assoc, mul_comm, mul-one, one-mul}
 use Rattle.std.proofs.lemmas.List.{length-map, map-set}
-use Rattle.std.proofs.lemmas.List.Sorted.{IsPermutation-keeps, IsPermutation-refl, IsPermutation-swap, IsPermutation-trans}
+use Rattle.std.proofs.lemmas.List.Sorted.{IsPermutation-keeps, IsPermutation-refl, IsPermutation-swap}
+use Rattle.std.proofs.lemmas.List.Sorted.{IsPermutation-trans}
 use Rattle.monoid_kit.specs.Monoid.{IsCommutativeMonoidOn}
 use Rattle.monoid_kit.specs.Product.{product_by}
 use Rattle.monoid_kit.proofs.Permutations.{product_by-permuted}
