@@ -2,15 +2,16 @@
 //! One specification serves all: a column v, labels A and B, and measures v and
 //! turned = 3*v if label A ; -1*v.
 
-ghost use Rattle.std.specs.Prelude.{[], ◌≡◌, ◌<◌, ◌≤◌, ◌≤ℤ◌, pos, All, IsTrue, IfOk, length, map};
+ghost use Rattle.std.specs.Prelude.{[], ◌∷◌, ◌≡◌, ◌<◌, ◌≤◌, ◌≤ℤ◌, pos, All, IsTrue, IfOk, IfSome, length, map};
 ghost use Rattle.std.specs.List.{list_all};
 ghost use Rattle.gta_checked.specs.Cells.{is_cell};
-ghost use Rattle.gta_checked.specs.Plain.{plain_case, plain_measure, plain_named, plain_pick, plain_test};
-ghost use Rattle.gta_checked.specs.Within.{IsAtomWithin, IsCaseWithin, IsMeasureWithin};
+ghost use Rattle.gta_checked.specs.Plain.{NamedTable, plain_case, plain_measure, plain_named, plain_pick, plain_test};
+ghost use Rattle.gta_checked.specs.Within.{IsAtomWithin, IsCaseWithin, IsMeasureWithin, IsTableWithin};
 ghost use Rattle.gta_checked.specs.Within.{IsPickWithin, IsTermWithin, IsTestWithin};
 ghost use Rattle.gta_meaning.specs.InRange.{HasColumnsOf};
 ghost use Rattle.monoid_kit.specs.TableOf.{plain_table};
 
+use crate::products::is_table;
 use gta_checked::{Atom, Case, Checked, Goal, Measure, Pick, Rows, Table, Term, Test};
 use gta_spec::{Check, Cmp, ColumnItem, ROW_LIMIT};
 use gta_text::Name;
@@ -88,6 +89,17 @@ fn spec_of(alloc: Global, tests: Vec<Test>) -> Result<Checked, AllocError>
     requires within { All (IsTestWithin 1 2 2 []) (map plain_test tests.items) }
     ensures columns { IfOk result (λ checked. length checked.columns ≡ 1) }
 {
+    spec_with(alloc, Vec::new(alloc), tests)
+}
+
+// A specification with these tables and tests.
+fn spec_with(alloc: Global, tables: Vec<Table>, tests: Vec<Test>) -> Result<Checked, AllocError>
+    requires few_tables { length (map plain_named tables.items) ≤ 8 }
+    requires tables { All IsTableWithin (map plain_named tables.items) }
+    requires few { length (map plain_test tests.items) ≤ 8 }
+    requires within { All (IsTestWithin 1 2 2 (map plain_named tables.items)) (map plain_test tests.items) }
+    ensures columns { IfOk result (λ checked. length checked.columns ≡ 1) }
+{
     let mut columns = Vec::new(alloc);
     columns.push(ColumnItem {
         name: Name::of(alloc, b"v")?,
@@ -104,7 +116,7 @@ fn spec_of(alloc: Global, tests: Vec<Test>) -> Result<Checked, AllocError>
         columns,
         labels,
         measures,
-        Vec::new(alloc),
+        tables,
         tests,
         Shape::Assign,
         Goal::Count,
@@ -137,6 +149,94 @@ fn summed_and_counted(alloc: Global, number: i64) -> Result<Checked, AllocError>
     };
     tests.push(Test::Length { check })?;
     spec_of(alloc, tests)
+}
+
+// Sums of bits.
+fn parity(alloc: Global) -> Result<Option<Table>, AllocError>
+    ensures { IfOk result (λ found. IfSome found (λ table. IsTableWithin (plain_named table)
+        × ((plain_named table).products.size ≡ 2))) }
+{
+    let table = RawTable {
+        size: 2,
+        unit: 0,
+        cells: Vec::from_slice(alloc, &[0, 1, 1, 0])?,
+    };
+    if !is_table(&table) {
+        return Ok(None);
+    }
+    let Ok(monoid) = check_table(alloc, &table) else {
+        return Ok(None);
+    };
+    let mut elements = Vec::new(alloc);
+    elements.push(Name::of(alloc, b"even")?)?;
+    elements.push(Name::of(alloc, b"odd")?)?;
+    Ok(Some(Table {
+        name: Name::of(alloc, b"parity")?,
+        elements,
+        monoid,
+    }))
+}
+
+// fold parity by odd if label B accept odd
+fn odd_labels(alloc: Global) -> Result<Test, AllocError>
+    ensures { IfOk result (λ test. (table : NamedTable) → table.products.size ≡ 2
+        → IsTestWithin 1 2 2 (table ∷ []) (plain_test test)) }
+{
+    let mut cond = Vec::new(alloc);
+    cond.push(Atom::Label(1))?;
+    let mut picks = Vec::new(alloc);
+    picks.push(Pick { element: 1, cond })?;
+    let mut accept = Vec::new(alloc);
+    accept.push(1)?;
+    Ok(Test::Fold {
+        table: 0,
+        picks,
+        accept,
+    })
+}
+
+// A specification with this table, and these tests in this order.
+fn spec_of_two(
+    alloc: Global,
+    table: Table,
+    first: Test,
+    second: Test,
+) -> Result<Checked, AllocError>
+    requires table { IsTableWithin (plain_named table) }
+    requires first { IsTestWithin 1 2 2 (plain_named table ∷ []) (plain_test first) }
+    requires second { IsTestWithin 1 2 2 (plain_named table ∷ []) (plain_test second) }
+    ensures columns { IfOk result (λ checked. length checked.columns ≡ 1) }
+{
+    let mut tables = Vec::new(alloc);
+    tables.push(table)?;
+    let mut tests = Vec::new(alloc);
+    tests.push(first)?;
+    tests.push(second)?;
+    spec_with(alloc, tables, tests)
+}
+
+// sum v <= bound, and an odd number of labels B; in this order or the other way round
+fn summed_and_folded(
+    alloc: Global,
+    table: Table,
+    bound: u8,
+    sum_first: bool,
+) -> Result<Checked, AllocError>
+    requires table { IsTableWithin (plain_named table) }
+    requires size { (plain_named table).products.size ≡ 2 }
+    ensures columns { IfOk result (λ checked. length checked.columns ≡ 1) }
+{
+    let check = Check::Compare {
+        cmp: Cmp::AtMost,
+        number: bound as i64,
+    };
+    let sum = Test::Sum { measure: V, check };
+    let fold = odd_labels(alloc)?;
+    if sum_first {
+        spec_of_two(alloc, table, sum, fold)
+    } else {
+        spec_of_two(alloc, table, fold, sum)
+    }
 }
 
 // turned mod 3 = 2
@@ -189,16 +289,42 @@ fn without_a_test_every_key_is_accepted(rt: HostRuntime) -> Result<(), Fail> {
 }
 
 #[test]
-fn the_first_test_has_the_most_significant_digit(rt: HostRuntime) -> Result<(), Fail> {
+fn the_test_with_more_keys_has_the_least_significant_digit(rt: HostRuntime) -> Result<(), Fail> {
     let rows = rows_of(rt.alloc(), &[1, 5, 0])?;
     let checked = summed_and_counted(rt.alloc(), 1)?;
     let tests = prepare_tests(rt.alloc(), &checked, &rows).expect(&rt, "natural values");
     assert_eq!(rt; tests.product().size(), 6);
-    assert_eq!(rt; tests.letters(), [3, 3, 5, 5, 1, 1].as_slice());
+    assert_eq!(rt; tests.letters(), [4, 4, 5, 5, 3, 3].as_slice());
     assert_eq!(rt;
         tests.accept(),
-        [false, true, false, true, false, false].as_slice()
+        [false, false, false, true, true, false].as_slice()
     );
+    Ok(())
+}
+
+#[test]
+fn a_table_has_the_most_significant_digit(rt: HostRuntime) -> Result<(), Fail> {
+    let rows = rows_of(rt.alloc(), &[1, 5, 0])?;
+    let after_three = [
+        false, false, false, false, false, true, true, true, true, false,
+    ];
+    let cases: [(u8, [u32; 6], &[bool]); 2] = [
+        (3, [1, 6, 4, 9, 0, 5], &after_three),
+        (0, [1, 3, 1, 3, 0, 2], &[false, false, true, false]),
+    ];
+    for (bound, letters, accept) in cases {
+        for sum_first in [true, false] {
+            let table = parity(rt.alloc())?.expect(&rt, "a lawful table");
+            let checked = summed_and_folded(rt.alloc(), table, bound, sum_first)?;
+            let tests = prepare_tests(rt.alloc(), &checked, &rows).expect(&rt, "natural values");
+            assert_eq!(rt;
+                tests.letters(),
+                letters.as_slice(),
+                "at {bound}, {sum_first}"
+            );
+            assert_eq!(rt; tests.accept(), accept, "at {bound}, {sum_first}");
+        }
+    }
     Ok(())
 }
 

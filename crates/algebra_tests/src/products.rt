@@ -10,7 +10,7 @@ use monoid_product::{Component, PART_LIMIT, Product, TooLarge, product_of};
 use std::alloc::{AllocError, Global};
 use std::test::Fail;
 
-fn is_table(table: &RawTable) -> bool
+pub(crate) fn is_table(table: &RawTable) -> bool
     ensures { IsTrue result → IsTable (plain_raw table.now) }
 {
     table.size >= 1

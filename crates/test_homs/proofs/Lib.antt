@@ -9,4 +9,5 @@ pub mod KindLaws
 pub mod Letters
 pub mod Digits
 pub mod Keys
+pub mod Orders
 pub mod Preparations

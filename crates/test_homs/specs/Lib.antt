@@ -8,5 +8,6 @@ pub mod Sizes
 pub mod Homs
 pub mod Prepared
 pub mod Joined
+pub mod Order
 pub mod Negatives
 pub mod Ends

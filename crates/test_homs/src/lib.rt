@@ -1,7 +1,7 @@
 //! Tests as letters and keys: the product of a candidate's letters decides whether it passes.
 //! specs/Homs.antt has keys and what they decide, specs/Hom.antt what a test is, specs/Kinds.antt the kinds of tests,
-//! specs/Joined.antt the keys of all tests together, specs/Sizes.antt how many keys there are, and
-//! specs/Negatives.antt the first value that a compared sum can't take.
+//! specs/Joined.antt the keys of all tests together, specs/Order.antt in which order, specs/Sizes.antt how many keys
+//! there are, and specs/Negatives.antt the first value that a compared sum can't take.
 #![tactic(auto)]
 
 mod added;
@@ -11,6 +11,7 @@ mod joined;
 mod kind;
 mod kinds;
 mod negatives;
+mod order;
 mod prepared;
 mod remainder;
 mod tests_of;

@@ -18,6 +18,7 @@ ghost use Rattle.monoid_product.specs.declared.product.TheConstants.{KEY_LIMIT};
 use crate::joined::{accepted_keys, components, keys};
 use crate::kinds::prepared_tests;
 use crate::negatives::first_negative;
+use crate::order::put_in_order;
 use crate::prepared::Prepared;
 use gta_checked::{Checked, Rows};
 use gta_meaning::label_count;
@@ -140,7 +141,8 @@ pub fn prepare_tests(alloc: Global, checked: &Checked, rows: &Rows) -> Result<Te
             value: negative.value,
         });
     }
-    let tests = prepared_tests(alloc, checked, rows)?;
+    let mut tests = prepared_tests(alloc, checked, rows)?;
+    put_in_order(&mut tests)?;
     match product_of(components(alloc, &tests)?) {
         Ok(product) => {
             let labels = label_count(checked);
