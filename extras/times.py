@@ -49,14 +49,8 @@ def main():
     asked = ("max", "best 1 max", "best 5 max")
     table(head, ([f"{n:,}", f"`{it}`", *[seconds(n, bound, it) for bound in bounds]] for n in sizes for it in asked))
     print()
-    leaves = (16, 64, 256, 1024)
-
-    def times_of(workers):
-        words = ["--workers", str(workers), "--leaf"]
-        return [f"`--workers {workers}`", *[seconds(1000, 1000, "max", [*words, str(leaf)]) for leaf in leaves]]
-
-    head = ["1,000 rows, 1,002 keys", *[f"`--leaf {leaf}`" for leaf in leaves]]
-    table(head, (times_of(workers) for workers in (1, 2, 4)))
+    head = ["10,000 rows, 1,002 keys", *[f"`--workers {workers}`" for workers in (1, 2, 4)]]
+    table(head, ([f"`{it}`", *[seconds(10000, 1000, it, ["--workers", str(w)]) for w in (1, 2, 4)]] for it in asked))
 
 
 main()
