@@ -1,5 +1,5 @@
--- Lists in another order: what a function gives of their items is in another order too, the same tests hold, and a
--- product of numbers is the same.
+-- Lists in another order: what f gives of their items is in another order too, the same tests hold, and the product of
+-- numbers is the same.
 use Rattle.std.proofs.Common.{◌≡◌, ℕ, ◌*◌, Bool, true, ◌&&◌, List, [], ◌∷◌, map, length, get_or}
 use Rattle.std.proofs.Common.{refl, sym, ap, ◌∙◌, arith}
 use Rattle.std.specs.List.{list_all, swap}
@@ -14,7 +14,7 @@ use Rattle.monoid_kit.specs.Monoid.{IsCommutativeMonoidOn}
 use Rattle.monoid_kit.specs.Product.{product_by}
 use Rattle.monoid_kit.proofs.Permutations.{product_by-permuted}
 
--- ys is what f gives of the items of xs, in another order
+-- the images of the items of xs, in another order
 pub record IsReordered {A B : Type 0} (f : A → B) (xs : List A) (ys : List B) : Type 0 where
   pub items : List A
   pub permuted : IsPermutation xs items
