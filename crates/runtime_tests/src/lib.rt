@@ -8,6 +8,8 @@ mod cuts;
 #[cfg(test)]
 mod leaf_numbers;
 #[cfg(test)]
+mod refusals;
+#[cfg(test)]
 mod shared_board;
 #[cfg(test)]
 mod workers;
