@@ -105,28 +105,31 @@ fn solved<R: Threads + Sync, G: Gate + Sync, L: Ledger>(
     Ok(solve(rt, alloc, plan, &cut, workers, gate, &mut steps).ok())
 }
 
-/// The same where calls of these numbers are refused.
+/// The same where calls of these numbers are refused, and the leaves that were computed.
 fn solved_without<R: Threads + Sync, L: Ledger>(
     rt: &R,
     alloc: Global,
     workers: u32,
     refused: &[u64],
     blank: Blank,
-) -> Result<Option<u32>, AllocError>
+) -> Result<(Option<u32>, u64), AllocError>
     requires same_name { blank.name ≡ L.name }
     requires same_parts { blank.parts ≡ L.parts }
     requires some_part { 0 < blank.parts }
 {
     let plan = Refusing::new(alloc, refused)?;
-    solved::<R, OpenGate, L>(rt, alloc, &plan, workers, &OpenGate, blank)
+    let value = solved::<R, OpenGate, L>(rt, alloc, &plan, workers, &OpenGate, blank)?;
+    Ok((value, plan.computed.load(Ordering::SeqCst)))
 }
 
-// One call of the 15 is refused. A worker that it ends leaves the rest to the caller.
+// Of 15 calls one is refused, in turn and many times, so that a pair is put back while the other worker has the board. The
+// worker that it ends leaves the rest to the other and to the caller, and each leaf is computed once.
 #[test]
 fn a_refused_call_leaves_the_value(rt: HostRuntime) -> Result<(), Fail> {
-    for number in 1..=15 {
+    for round in 0..3000u64 {
+        let number = round % 15 + 1;
         for workers in [1, 2] {
-            let value = solved_without::<HostRuntime, Brand>(
+            let (value, leaves) = solved_without::<HostRuntime, Brand>(
                 &rt,
                 rt.alloc(),
                 workers,
@@ -135,7 +138,11 @@ fn a_refused_call_leaves_the_value(rt: HostRuntime) -> Result<(), Fail> {
             )?;
             // Of two workers both may be gone before the call that is refused.
             if workers == 1 || value.is_some() {
-                assert_eq!(rt; value, Some(8), "call {number}, {workers} workers");
+                assert_eq!(rt;
+                    (value, leaves),
+                    (Some(8), 255),
+                    "call {number}, {workers} workers"
+                );
             }
         }
     }
@@ -146,14 +153,14 @@ fn a_refused_call_leaves_the_value(rt: HostRuntime) -> Result<(), Fail> {
 fn with_all_calls_refused_there_is_no_value(rt: HostRuntime) -> Result<(), Fail> {
     let all = [1, 2, 3, 4, 5, 6, 7, 8, 9, 10, 11, 12, 13, 14, 15];
     for workers in [1, 2] {
-        let value = solved_without::<HostRuntime, Brand>(
+        let left = solved_without::<HostRuntime, Brand>(
             &rt,
             rt.alloc(),
             workers,
             &all,
             Blank::new(1),
         )?;
-        assert_eq!(rt; value, None, "{workers} workers");
+        assert_eq!(rt; left, (None, 0), "{workers} workers");
     }
     Ok(())
 }
