@@ -1,9 +1,7 @@
 //! Inputs that end early, and lines of the error output that a fault cuts.
 
 use super::{Ports, SMOOTH, USAGE, called};
-use std::process::Abort;
 use std::test::Fail;
-use std::thread::Threads;
 
 // Each front of a knapsack is answered or refused, and prints in one place.
 #[test]
@@ -13,10 +11,10 @@ fn each_front_of_an_input(rt: HostRuntime) -> Result<(), Fail> {
     for len in 0..=input.len() {
         let ended = called(&rt, rt.alloc(), &["run"], &input[..len], SMOOTH)?;
         let status = if ended.err.is_empty() { 0 } else { 1 };
-        assert_eq!(rt; ended.status, status, "status at {len} bytes");
+        assert_eq!(rt; ended.status, status, "status of {len} bytes");
         assert!(rt;
             ended.out.is_empty() != ended.err.is_empty(),
-            "outputs at {len} bytes"
+            "outputs of {len} bytes"
         );
     }
     Ok(())
@@ -33,7 +31,7 @@ fn a_line_cut_at_each_call(rt: HostRuntime) -> Result<(), Fail> {
         (&["run", "--workers", "0"], b"", USAGE, 2),
         (&["run"], b"gta 1\n", b"refused 14: no line rows\n", 1),
         (
-            &["show"],
+            &["run"],
             b"gta 1\ncolumns v\ngenerate suffixes\ntable t unit e elements e a b\ntimes t e = e a b\n\
               times t a = a b a\ntimes t b = b b e\naggregate count\nrows\n",
             b"refused 27: table t: not associative at a a a\n",
