@@ -1,5 +1,5 @@
-//! What no clause says: what is left where a leaf or a join finds no memory or a piece finds no room, and that the workers
-//! compute all leaves and joins, at their own turns.
+//! What no clause says: what is left where a leaf or a join finds no memory or a piece finds no room, and that the
+//! workers compute all leaves and joins, at their own turns.
 ghost use Rattle.std.specs.Prelude.{◌≡◌, ◌-◌, ◌<◌};
 
 use board_table::{Leftover, start};
@@ -122,8 +122,8 @@ fn solved_without<R: Threads + Sync, L: Ledger>(
     Ok((value, plan.computed.load(Ordering::SeqCst)))
 }
 
-// Of 15 calls one is refused, in turn and many times, so that a pair is put back while the other worker has the board. The
-// worker that it ends leaves the rest to the other and to the caller, and each leaf is computed once.
+// Of 15 calls one is refused, in turn and many times, so that a pair is put back while the other worker has the board.
+// The worker that it ends leaves the rest to the other and to the caller, and each leaf is computed once.
 #[test]
 fn a_refused_call_leaves_the_value(rt: HostRuntime) -> Result<(), Fail> {
     for round in 0..3000u64 {
@@ -234,8 +234,8 @@ fn cover(pieces: &[Piece<u32>], computed: u64) -> bool {
 }
 
 /// What one worker alone leaves on a board with this room, where calls of these numbers are refused: its end, the calls
-/// that it made, the claims on the board, the pieces in its pocket, and whether these and the board's have each leaf that
-/// was computed once.
+/// that it made, the claims on the board, the pieces in its pocket, and whether these and the board's have each leaf
+/// that was computed once.
 fn left_by<L: Ledger>(
     alloc: Global,
     room: u32,
