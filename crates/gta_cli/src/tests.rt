@@ -1,11 +1,12 @@
 //! The worked examples over the top call: what is printed and where, limits of the input, and faults at each call.
 //! tests/specs.rt has those of specifications, with `show`; tests/table.rt those of tables, tests/shapes.rt those of
 //! what is generated, tests/answers.rt and tests/folds.rt those of tests and aggregates, tests/best.rt those of the
-//! best candidates, and tests/commands.rt those of the other commands.
+//! best candidates, and tests/commands.rt those of the other commands. tests/cuts.rt has inputs and lines that are cut.
 
 mod answers;
 mod best;
 mod commands;
+mod cuts;
 mod folds;
 mod shapes;
 mod specs;
@@ -438,28 +439,6 @@ fn faults_of_a_knapsack(rt: HostRuntime) -> Result<(), Fail> {
             err,
             "error output at status {status}"
         );
-    }
-    Ok(())
-}
-
-// A refusal whose line is cut by a fault of the error output.
-#[test]
-fn a_refusal_cut_by_a_fault(rt: HostRuntime) -> Result<(), Fail> {
-    let cases: [(&[u64], u8, &[u8]); 3] = [
-        (&[1], 4, b""),
-        (&[3], 4, b"refused "),
-        (&[8], 1, b"refused 14: no line rows\n"),
-    ];
-    for (err_fails, status, err) in cases {
-        let ports = Ports {
-            err_chunk: 4,
-            err_fails,
-            ..SMOOTH
-        };
-        let ended = called(&rt, rt.alloc(), &["run"], b"gta 1\n", ports)?;
-        assert_eq!(rt; ended.status, status, "status at {err_fails:?}");
-        assert_eq!(rt; ended.out.len(), 0, "output at {err_fails:?}");
-        assert_eq!(rt; ended.err.as_slice(), err, "error output at {err_fails:?}");
     }
     Ok(())
 }

@@ -153,6 +153,57 @@ fn what_happens_at_the_gate_shows_nowhere(rt: HostRuntime) -> Result<(), Fail> {
     Ok(())
 }
 
+/// Two workers wait for each other at their second turns.
+#[derive(Drop)]
+struct Meeting {
+    came: [AtomicU64; 2],
+    missed: AtomicU64,
+}
+
+impl Gate for Meeting {
+    fn pass(&self, worker: u32, turn: u64) {
+        let (own, other) = if worker == 1 { (0, 1) } else { (1, 0) };
+        if turn == 1 {
+            self.came[own].store(1, Ordering::SeqCst);
+        }
+        if turn == 2 {
+            for _ in 0..100_000_000u32 {
+                if self.came[other].load(Ordering::SeqCst) == 1 {
+                    return;
+                }
+            }
+            self.missed.store(1, Ordering::SeqCst);
+        }
+    }
+}
+
+// A job of 64 rows, each a 1 and a leaf: while one worker waits there are leaves left for the other's second turn.
+#[test]
+fn two_workers_answer_beside_each_other(rt: HostRuntime) -> Result<(), Fail> {
+    let mut input = Vec::from_slice(
+        rt.alloc(),
+        b"gta 1\ncolumns v\ngenerate prefixes\naggregate max v\nrows\nv\n",
+    )?;
+    for _ in 0..64u32 {
+        input.extend_from_slice(b"1\n")?;
+    }
+    assert!(rt; input.len() <= 1_000_000);
+    let gate = Meeting {
+        came: [AtomicU64::new(0), AtomicU64::new(0)],
+        missed: AtomicU64::new(0),
+    };
+    let text = printed(
+        rt.alloc(),
+        answer_with(&rt, rt.alloc(), input.as_slice(), 2, 1, &gate),
+    )?;
+    assert_eq!(rt; text.as_slice(), b"answer 64\n".as_slice());
+    assert_eq!(rt; gate.missed.load(Ordering::SeqCst), 0);
+    for came in &gate.came {
+        assert_eq!(rt; came.load(Ordering::SeqCst), 1);
+    }
+    Ok(())
+}
+
 /// What is printed of the candidates that a job keeps: their list, or the line of the refusal.
 fn listed<R: Abort>(rt: &R, alloc: Global, input: &[u8]) -> Result<Vec<u8>, Fail> {
     assert!(rt; input.len() <= 1_000_000);

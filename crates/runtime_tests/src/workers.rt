@@ -223,6 +223,9 @@ fn two_workers_run_beside_each_other(rt: HostRuntime) -> Result<(), Fail> {
     )?;
     assert_eq!(rt; value, 64);
     assert_eq!(rt; gate.missed.load(Ordering::SeqCst), 0);
+    for came in &gate.came {
+        assert_eq!(rt; came.load(Ordering::SeqCst), 1);
+    }
     Ok(())
 }
 
