@@ -27,7 +27,7 @@ times order nn = nn nn nn nn nn nn
 
 SHIFTS = (
     "labels off day night\ngenerate assign\nmeasure days = cost if label day\nmeasure nights = cost if label night\n"
-    "measure earned = gain if label day ; 2 gain if label night\n" + ORDER + "test sum days <= 20\ntest sum nights <= 20\n"
+    "measure earned = gain if label day ; 2 * gain if label night\n" + ORDER + "test sum days <= 20\ntest sum nights <= 20\n"
     "test fold order by n if label night ; o accept e o n on no\naggregate max earned\n"
 )
 
