@@ -11,7 +11,8 @@ use Rattle.gta_words.specs.declared.words.Command.TheVariants.{Run, Show, List a
 use Rattle.report_text.specs.declared.refusal.Refusal.{Refusal}
 use Rattle.report_text.specs.declared.refusal.Refusal.TheVariants.{Input}
 use Rattle.gta_job.specs.declared.job.TheConstants.{INPUT_LIMIT}
-use Rattle.gta_job.specs.Outcome.{outcome, report_outcome, and_then, unless, input_refusal}
+use Rattle.outcome_kit.specs.Outcome.{and_then, unless}
+use Rattle.gta_job.specs.Outcome.{input_refusal, outcome, report_outcome}
 use Rattle.gta_cli.specs.Causes.{Explains, ending_of_read}
 use Rattle.gta_cli.specs.Endings.{Failed, IsDrill, IsSteady, Stream, input_of}
 

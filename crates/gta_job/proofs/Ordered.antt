@@ -1,38 +1,108 @@
 -- What follows the steps of an outcome, where they give a value, and where they end with a refusal.
-use Rattle.std.proofs.Common.{◌≡◌, ℕ, ◌∙◌, List, drop, Option, Some, None, Result, Ok, Err, refl, sym, ap, subst}
-use Rattle.std.specs.Prelude.{option_and_then}
-use Rattle.gta_checked.specs.PlainRows.{PlainRows, plain_rows}
+use Rattle.std.proofs.Common.{◌≡◌, ℕ, ◌∙◌, ◌≤◌, nat_lt, false, List, length, drop, Result, Ok, refl, sym, ap, subst}
+use Rattle.std.proofs.Common.{arith}
+use Rattle.std.proofs.lemmas.Bool.Decides.{nat_tests}
+use Rattle.outcome_kit.specs.Outcome.{and_then, unless, Carries}
+use Rattle.outcome_kit.proofs.Outcomes.{and_then-Carries}
+use Rattle.gta_checked.specs.PlainRows.{PlainRows}
 use Rattle.gta_checked.specs.Plain.{PlainChecked}
-use Rattle.gta_syntax.specs.Refusals.{ReadTree}
-use Rattle.gta_types.specs.ResolvedOf.{resolved_of}
-use Rattle.report_text.specs.declared.refusal.Refusal.{Refusal}
-use Rattle.gta_job.specs.declared.job.JobEnd.{JobEnd}
-use Rattle.gta_job.specs.declared.job.JobEnd.TheVariants as job
+use Rattle.spec_tables.specs.declared.fault.TablesFault.TheVariants as tables
+use Rattle.gta_syntax.specs.declared.fault.SpecFault.{SpecFault}
+use Rattle.gta_syntax.specs.declared.fault.SpecFault.TheVariants as reads
+use Rattle.gta_syntax.specs.Refusals as reading
+use Rattle.gta_syntax.specs.Refusals.{ReadTree, spec_of}
+use Rattle.gta_types.specs.declared.fault.CheckFault.{CheckFault}
+use Rattle.gta_types.specs.declared.fault.CheckFault.TheVariants as checks
+use Rattle.gta_types.specs.Faults as checking
+use Rattle.gta_types.specs.ResolvedOf.{checked_outcome, resolved_of}
 use Rattle.gta_rows.specs.declared.fault.RowsFault.{RowsFault}
 use Rattle.gta_rows.specs.declared.fault.RowsFault.TheVariants as table
-use Rattle.gta_rows.specs.Table.{IsFaultOf, IsTableOf, table_fault}
-use Rattle.gta_checked.specs.declared.rows.Rows.{Rows}
-use Rattle.gta_job.proofs.Records.{table-rows}
-use Rattle.gta_job.specs.Ends.{Ends, Stops, Tells, end_of_table, refusal_in}
-use Rattle.gta_job.specs.Outcome.{of_rows, rows_of, specification, table_rows, and_then, unless}
+use Rattle.gta_rows.specs.Table as rows
+use Rattle.report_text.specs.declared.refusal.Refusal.{Refusal}
+use Rattle.gta_job.specs.declared.job.JobEnd.{JobEnd}
+use Rattle.gta_job.specs.declared.job.TheConstants.{INPUT_LIMIT}
+use Rattle.gta_job.specs.Ends.{Ends, Tells, end_of_checking, end_of_reading, end_of_table, refusal_in, told_by}
+use Rattle.gta_job.specs.Outcome.{of_rows, specification, table_rows}
 
 module _ {S T : Type 0} where
   -- a step that ends with a refusal ends all
   pub then-ends : (step : Result S Refusal) (next : S → Result T Refusal) (end : JobEnd) → Ends step end
       → Ends (and_then step next) end
-  then-ends step next (job.Refused refusal) is = ap (λ step. and_then step next) is
-  then-ends step next job.Memory is = tt
+  then-ends step next end ends = and_then-Carries step next (refusal_in end) ends
 
   -- where a step gives a value, what follows decides
   pub then-later : (step : Result S Refusal) (value : S) (next : S → Result T Refusal) (end : JobEnd)
       → step ≡ Ok value → Ends (next value) end → Ends (and_then step next) end
   then-later step value next end is ends = subst (λ outcome. Ends outcome end) (sym (ap (λ step. and_then step next) is)) ends
 
+-- the end of a call below, told as the end of a job
 module _ {T : Type 0} where
-  pub unless-ends : (refusal : Option Refusal) (next : Result T Refusal) (end : JobEnd) → Stops refusal end
-      → Ends (unless refusal next) end
-  unless-ends refusal next (job.Refused r) is = ap (λ refusal. unless refusal next) is
-  unless-ends refusal next job.Memory is = tt
+  reading-ends : (outcome : Result T SpecFault) (fault : SpecFault) → Carries outcome (reading.fault_in fault)
+      → Ends (told_by end_of_reading outcome) (end_of_reading fault)
+  reading-ends outcome (reads.Byte line place) is = ap (told_by end_of_reading) is
+  reading-ends outcome (reads.Version line) is = ap (told_by end_of_reading) is
+  reading-ends outcome (reads.Grammar line) is = ap (told_by end_of_reading) is
+  reading-ends outcome (reads.Number line) is = ap (told_by end_of_reading) is
+  reading-ends outcome reads.NoRows is = ap (told_by end_of_reading) is
+  reading-ends outcome reads.Memory is = tt
+
+  checking-ends : (outcome : Result T CheckFault) (fault : CheckFault) → Carries outcome (checking.fault_in fault)
+      → Ends (told_by end_of_checking outcome) (end_of_checking fault)
+  checking-ends outcome (checks.Unknown line name) is = ap (told_by end_of_checking) is
+  checking-ends outcome (checks.Twice line name) is = ap (told_by end_of_checking) is
+  checking-ends outcome (checks.Missing part) is = ap (told_by end_of_checking) is
+  checking-ends outcome (checks.SecondPart line part) is = ap (told_by end_of_checking) is
+  checking-ends outcome (checks.LabelsAssign line assign) is = ap (told_by end_of_checking) is
+  checking-ends outcome (checks.Limit line limit) is = ap (told_by end_of_checking) is
+  checking-ends outcome (checks.Table (tables.UnitFails table element left)) is = ap (told_by end_of_checking) is
+  checking-ends outcome (checks.Table (tables.NotAssociative table a b c)) is = ap (told_by end_of_checking) is
+  checking-ends outcome (checks.Table (tables.NotSquare table element)) is = ap (told_by end_of_checking) is
+  checking-ends outcome (checks.Table tables.Memory) is = tt
+  checking-ends outcome checks.Memory is = tt
+
+  pub table-ends : (outcome : Result T RowsFault) (fault : RowsFault) → Carries outcome (rows.fault_in fault)
+      → Ends (told_by end_of_table outcome) (end_of_table fault)
+  table-ends outcome table.NoHeader is = ap (told_by end_of_table) is
+  table-ends outcome (table.Missing column) is = ap (told_by end_of_table) is
+  table-ends outcome (table.ColumnTwice column) is = ap (told_by end_of_table) is
+  table-ends outcome (table.Length row fields header) is = ap (told_by end_of_table) is
+  table-ends outcome (table.Field row column) is = ap (told_by end_of_table) is
+  table-ends outcome table.TooMany is = ap (told_by end_of_table) is
+  table-ends outcome table.Memory is = tt
+
+-- the specification of bytes that are not too many
+module _ (bytes : List ℕ) (few : length bytes ≤ INPUT_LIMIT) where
+  abbrev checked_for : ReadTree → Result ReadTree Refusal
+  checked_for read = and_then (told_by end_of_checking (checked_outcome read.spec)) (λ checked. Ok read)
+
+  not_refused : specification bytes ≡ and_then (told_by end_of_reading (spec_of bytes)) checked_for
+  not_refused =
+      let test : nat_lt INPUT_LIMIT (length bytes) ≡ false = grind (arith, nat_tests) in rw test refl
+
+  is_read : (read : ReadTree) → spec_of bytes ≡ Ok read → specification bytes ≡ checked_for read
+  is_read read is = not_refused ∙ ap (λ (outcome : Result ReadTree SpecFault).
+      and_then (told_by end_of_reading outcome) checked_for) is
+
+  pub read-ends : (fault : SpecFault) → Carries (spec_of bytes) (reading.fault_in fault)
+      → Ends (specification bytes) (end_of_reading fault)
+  read-ends fault is =
+      subst (λ outcome. Ends outcome (end_of_reading fault)) (sym not_refused)
+      (then-ends (told_by end_of_reading (spec_of bytes)) checked_for (end_of_reading fault)
+      (reading-ends (spec_of bytes) fault is))
+
+  pub check-ends : (read : ReadTree) (fault : CheckFault) → spec_of bytes ≡ Ok read
+      → Carries (checked_outcome read.spec) (checking.fault_in fault)
+      → Ends (specification bytes) (end_of_checking fault)
+  check-ends read fault is_spec is =
+      subst (λ outcome. Ends outcome (end_of_checking fault)) (sym (is_read read is_spec))
+      (then-ends (told_by end_of_checking (checked_outcome read.spec)) (λ checked. Ok read) (end_of_checking fault)
+      (checking-ends (checked_outcome read.spec) fault is))
+
+  pub spec-told : (read : ReadTree) (checked : PlainChecked) → spec_of bytes ≡ Ok read
+      → checked_outcome read.spec ≡ Ok checked → specification bytes ≡ Ok read
+  spec-told read checked is_spec is = is_read read is_spec
+      ∙ ap (λ (outcome : Result PlainChecked CheckFault).
+      and_then (told_by end_of_checking outcome) (λ checked. Ok read)) is
 
 module _ (told : PlainChecked → PlainRows → Result (List ℕ) Refusal) (bytes : List ℕ) where
   abbrev rows_told : ReadTree → Result (List ℕ) Refusal
@@ -55,28 +125,6 @@ module _ (told : PlainChecked → PlainRows → Result (List ℕ) Refusal) (byte
   of_table-ends read end is_read ends =
       subst (λ outcome. Ends outcome end) (sym (ap (λ step. and_then step rows_told) is_read))
       (then-ends (table_rows (resolved_of read.spec) (drop read.rows_at bytes)) (λ rows. told (resolved_of read.spec) rows) end ends)
-
--- the rows of a table, or its first fault
-module _ (checked : PlainChecked) (bytes : List ℕ) where
-  abbrev with_fault : Option RowsFault → Result PlainRows Refusal
-  with_fault fault =
-      unless (option_and_then (λ fault. refusal_in (end_of_table fault)) fault) (Ok (rows_of checked bytes))
-
-  pub table-told : (rows : Rows) → IsTableOf checked.columns bytes rows → table_fault checked.columns bytes ≡ None
-      → table_rows checked bytes ≡ Ok (plain_rows rows)
-  unfolding table_rows
-  table-told rows table none = ap with_fault none ∙ ap Ok (sym (table-rows checked bytes rows table))
-
-  pub table-ends : (fault : RowsFault) → IsFaultOf checked.columns bytes fault
-      → Ends (table_rows checked bytes) (end_of_table fault)
-  unfolding table_rows
-  table-ends table.NoHeader is = ap with_fault is
-  table-ends (table.Missing column) is = ap with_fault is
-  table-ends (table.ColumnTwice column) is = ap with_fault is
-  table-ends (table.Length row fields header) is = ap with_fault is
-  table-ends (table.Field row column) is = ap with_fault is
-  table-ends table.TooMany is = ap with_fault is
-  table-ends table.Memory is = tt
 
 -- a result that tells an outcome tells the same outcome
 pub tells-same : {S T : Type 0} (seen : S → T) (a b : Result T Refusal) (result : Result S JobEnd) → a ≡ b

@@ -10,9 +10,8 @@ use Rattle.gta_checked.specs.Plain.{PlainChecked}
 use Rattle.gta_rows.specs.Fields.{Record}
 use Rattle.gta_rows.specs.declared.fault.RowsFault.{RowsFault}
 use Rattle.gta_rows.specs.declared.fault.RowsFault.TheVariants.{TooMany}
-use Rattle.gta_rows.specs.Table.{IsTableOf, fault_behind, fault_in, first_bad_cell, missing, no_cell, places}
-use Rattle.gta_rows.specs.Table.{table_fault, table_records, too_many, twice, wrong_length}
-use Rattle.gta_job.specs.Outcome.{rows_of}
+use Rattle.gta_rows.specs.Table.{IsTableOf, fault_behind, first_bad_cell, missing, no_cell, places}
+use Rattle.gta_rows.specs.Table.{records_fault, table_fault, table_records, too_many, twice, wrong_length}
 
 or-second : {A : Type 0} (first second : Option A) → option_or first second ≡ None → second ≡ None
 or-second None second none = none
@@ -25,9 +24,9 @@ few-if_not_many count none = by_test (nat_lt ROW_LIMIT count) refl
     by_test true many = absurd (let found : Some TooMany ≡ None = rw many at none in cc)
     by_test false few = grind (arith, few)
 
-few-in : (items : List ColumnItem) (records : List Record) → fault_in items records ≡ None
+few-in : (items : List ColumnItem) (records : List Record) → records_fault items records ≡ None
     → length records ≤ ROW_LIMIT + 1
-unfolding fault_in fault_behind
+unfolding records_fault fault_behind
 few-in items [] none = omega arith
 few-in items (header ∷ records) none =
     let behind = or-second (twice header items) (fault_behind header items records)
@@ -44,12 +43,3 @@ table-few items bytes rows table none =
     let few = few-in items (table_records bytes) none in
     let count = table.count in
     omega (arith, few, count)
-
-pub table-rows : (checked : PlainChecked) (bytes : List ℕ) (rows : Rows) → IsTableOf checked.columns bytes rows
-    → plain_rows rows ≡ rows_of checked bytes
-table-rows checked bytes rows table =
-    let count : rows.count ≡ length (table_records bytes) - 1 = let more = table.count in omega (arith, more) in
-    let of : ℕ → ℕ → List ℤ → PlainRows = λ n w cells. record { count = n; columns = w; cells = cells } in
-    ap (λ n. of n rows.columns rows.cells.items) count
-    ∙ ap (λ w. of (length (table_records bytes) - 1) w rows.cells.items) table.columns
-    ∙ ap (of (length (table_records bytes) - 1) (length checked.columns)) table.cells

@@ -1,7 +1,10 @@
--- The refusals that faults are told by, and what a call tells: an outcome, or that memory was wanting.
-use Rattle.std.specs.Prelude.{◌≡◌, Option, Some, None, Result, Ok, Err}
+-- The refusals that faults are told by, and what a job tells of an outcome.
+use Rattle.std.specs.Prelude.{Option, Some, None, Result, Ok, Err}
+use Rattle.outcome_kit.specs.Outcome as outcomes
 use Rattle.gta_syntax.specs.declared.fault.SpecFault.{SpecFault}
 use Rattle.gta_syntax.specs.declared.fault.SpecFault.TheVariants as reading
+use Rattle.spec_tables.specs.declared.fault.TablesFault.{TablesFault}
+use Rattle.spec_tables.specs.declared.fault.TablesFault.TheVariants as tables
 use Rattle.gta_types.specs.declared.fault.CheckFault.{CheckFault}
 use Rattle.gta_types.specs.declared.fault.CheckFault.TheVariants as checking
 use Rattle.gta_rows.specs.declared.fault.RowsFault.{RowsFault}
@@ -21,6 +24,13 @@ end_of_reading (reading.Number line) = Refused (refusals.Number line)
 end_of_reading reading.NoRows = Refused refusals.NoRows
 end_of_reading reading.Memory = Memory
 
+-- what a fault of the tables ends a job with
+abbrev pub end_of_tables : TablesFault → JobEnd
+end_of_tables (tables.UnitFails table element left) = Refused (refusals.UnitFails table element left)
+end_of_tables (tables.NotAssociative table a b c) = Refused (refusals.NotAssociative table a b c)
+end_of_tables (tables.NotSquare table element) = Refused (refusals.NotSquare table element)
+end_of_tables tables.Memory = Memory
+
 -- what a fault of checking ends a job with
 abbrev pub end_of_checking : CheckFault → JobEnd
 end_of_checking (checking.Unknown line name) = Refused (refusals.Unknown line name)
@@ -29,9 +39,7 @@ end_of_checking (checking.Missing part) = Refused (refusals.Missing part)
 end_of_checking (checking.SecondPart line part) = Refused (refusals.SecondPart line part)
 end_of_checking (checking.LabelsAssign line assign) = Refused (refusals.LabelsAssign line assign)
 end_of_checking (checking.Limit line limit) = Refused (refusals.Limit line limit)
-end_of_checking (checking.UnitFails table element left) = Refused (refusals.UnitFails table element left)
-end_of_checking (checking.NotAssociative table a b c) = Refused (refusals.NotAssociative table a b c)
-end_of_checking (checking.NotSquare table element) = Refused (refusals.NotSquare table element)
+end_of_checking (checking.Table fault) = end_of_tables fault
 end_of_checking checking.Memory = Memory
 
 -- what a fault of the table ends a job with
@@ -44,7 +52,7 @@ end_of_table (table.Field row column) = Refused (refusals.Field row column)
 end_of_table table.TooMany = Refused refusals.TooMany
 end_of_table table.Memory = Memory
 
--- the refusal that a job ends with, where it ends with one
+-- the refusal that a job ends with, where it ends with one; want of memory is none
 abbrev pub refusal_in : JobEnd → Option Refusal
 refusal_in (Refused refusal) = Some refusal
 refusal_in Memory = None
@@ -54,22 +62,18 @@ abbrev pub refused : {T : Type 0} → JobEnd → Result T Refusal
 refused (Refused refusal) = Err refusal
 refused Memory = Err Input
 
--- an end without an answer carries the outcome's refusal; want of memory is free
+-- the same outcome, where its fault is told as a refusal
+abbrev pub told_by : {T F : Type 0} → (F → JobEnd) → Result T F → Result T Refusal
+told_by end_of (Ok value) = Ok value
+told_by end_of (Err fault) = refused (end_of fault)
+
+-- what ends of jobs, and their results, tell of an outcome
+
 abbrev pub Ends : {T : Type 0} → Result T Refusal → JobEnd → Type 0
-Ends outcome (Refused refusal) = outcome ≡ Err refusal
-Ends outcome Memory = Unit {0}
+Ends outcome end = outcomes.Carries outcome (refusal_in end)
 
--- a result tells an outcome: its value is seen as the outcome's, or it is the outcome's refusal; want of memory is free
 abbrev pub Tells : {S T : Type 0} → (S → T) → Result T Refusal → Result S JobEnd → Type 0
-Tells seen outcome (Ok value) = outcome ≡ Ok (seen value)
-Tells seen outcome (Err end) = Ends outcome end
+Tells seen outcome result = outcomes.Tells refusal_in seen outcome result
 
--- an end carries the refusal that there is; want of memory is free
-abbrev pub Stops : Option Refusal → JobEnd → Type 0
-Stops refusal (Refused r) = refusal ≡ Some r
-Stops refusal Memory = Unit {0}
-
--- a result is there where there is no refusal, and else it is the refusal
 abbrev pub Passes : {S : Type 0} → Option Refusal → Result S JobEnd → Type 0
-Passes refusal (Ok value) = refusal ≡ None
-Passes refusal (Err end) = Stops refusal end
+Passes refusal result = outcomes.Passes refusal_in refusal result

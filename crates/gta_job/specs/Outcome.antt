@@ -1,6 +1,7 @@
 -- What a command comes to on bytes: the text that it prints, or the first refusal, in steps that stop at the first.
-use Rattle.std.specs.Prelude.{ℕ, ◌-◌, List, [], ◌++◌, length, drop, nat_lt, if◌then◌else◌, slice_get}
-use Rattle.std.specs.Prelude.{Option, Some, None, option_map, option_and_then, Result, Ok, Err}
+use Rattle.std.specs.Prelude.{ℕ, List, [], ◌++◌, length, drop, nat_lt, if◌then◌else◌, slice_get}
+use Rattle.std.specs.Prelude.{Option, Some, None, option_map, Result, Ok}
+use Rattle.outcome_kit.specs.Outcome.{and_then, unless}
 use Rattle.drill_texts.specs.declared.drill.Drill.{Drill as Part}
 use Rattle.drill_texts.specs.declared.drill.Drill.TheVariants.{Best, Greatest, Segments}
 use Rattle.drill_texts.specs.Drills.{drill_text, heading}
@@ -12,12 +13,9 @@ use Rattle.report_text.specs.Texts.{list_text, report_text}
 use Rattle.gta_canonical.specs.Canonical.{canonical}
 use Rattle.gta_checked.specs.PlainRows.{PlainRows}
 use Rattle.gta_checked.specs.Plain.{PlainChecked}
-use Rattle.gta_spec.specs.Parts.{SpecTree}
-use Rattle.gta_syntax.specs.declared.fault.SpecFault.{SpecFault}
 use Rattle.gta_syntax.specs.Refusals.{ReadTree, spec_of}
-use Rattle.gta_types.specs.Faults.{check_fault}
-use Rattle.gta_types.specs.ResolvedOf.{resolved_of}
-use Rattle.gta_rows.specs.Table.{table_cells, table_fault, table_records}
+use Rattle.gta_types.specs.ResolvedOf.{checked_outcome, resolved_of}
+use Rattle.gta_rows.specs.Table.{table_outcome}
 use Rattle.gta_meaning.specs.Heavy.{first_heavy}
 use Rattle.gta_meaning.specs.Kept.{kept}
 use Rattle.gta_meaning.specs.Listed.{is_too_many}
@@ -26,48 +24,24 @@ use Rattle.test_homs.specs.Negatives.{first_negative}
 use Rattle.gta_job.specs.declared.job.TheConstants.{INPUT_LIMIT}
 use Rattle.gta_job.specs.declared.listing.TheConstants.{CANDIDATE_LIMIT, MARK_LIMIT}
 use Rattle.gta_job.specs.Answers.{answer}
-use Rattle.gta_job.specs.Ends.{end_of_checking, end_of_reading, end_of_table, refusal_in, refused}
+use Rattle.gta_job.specs.Ends.{end_of_checking, end_of_reading, end_of_table, told_by}
 use Rattle.gta_job.specs.Sizes.{keys_refusal, size_refusal}
-
--- what follows, unless there is a refusal
-abbrev pub unless : {T : Type 0} → Option Refusal → Result T Refusal → Result T Refusal
-unless None next = next
-unless (Some refusal) next = Err refusal
-
--- what follows from a value, unless there is a refusal in its place
-abbrev pub and_then : {S T : Type 0} → Result S Refusal → (S → Result T Refusal) → Result T Refusal
-and_then (Ok value) next = next value
-and_then (Err refusal) next = Err refusal
 
 -- the refusal of an input of too many bytes
 abbrev pub input_refusal : List ℕ → Option Refusal
 input_refusal bytes = if nat_lt INPUT_LIMIT (length bytes) then Some Input else None
 
--- the refusal of a specification by its names, its rules and its tables
-abbrev pub check_refusal : SpecTree → Option Refusal
-check_refusal spec = option_and_then (λ fault. refusal_in (end_of_checking fault)) (check_fault spec)
-
-abbrev pub checked_spec : Result ReadTree SpecFault → Result ReadTree Refusal
-checked_spec (Err fault) = refused (end_of_reading fault)
-checked_spec (Ok read) = unless (check_refusal read.spec) (Ok read)
-
--- the specification that bytes are, with the place of its table
+-- the specification that bytes are, with the place of its table; one that is checked has no fault
 abbrev pub specification : List ℕ → Result ReadTree Refusal
-specification bytes = unless (input_refusal bytes) (checked_spec (spec_of bytes))
-
--- the rows of a table that has no fault: the records behind the header
-abbrev pub rows_of : PlainChecked → List ℕ → PlainRows
-rows_of checked table = record {
-  count = length (table_records table) - 1;
-  columns = length checked.columns;
-  cells = table_cells checked.columns table;
-}
+specification bytes =
+    unless (input_refusal bytes)
+    (and_then (told_by end_of_reading (spec_of bytes)) (λ read.
+    and_then (told_by end_of_checking (checked_outcome read.spec)) (λ checked.
+    Ok read)))
 
 -- the rows that the bytes of a table hold
 unfoldable pub table_rows : PlainChecked → List ℕ → Result PlainRows Refusal
-table_rows checked table =
-    unless (option_and_then (λ fault. refusal_in (end_of_table fault)) (table_fault checked.columns table))
-    (Ok (rows_of checked table))
+table_rows checked table = told_by end_of_table (table_outcome checked.columns table)
 
 -- the refusal of a negative value, with its label's name where labels are declared
 abbrev pub negative_of : PlainChecked → FirstNegative → Refusal

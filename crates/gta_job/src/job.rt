@@ -16,6 +16,7 @@ use gta_rows::RowsFault;
 use gta_syntax::SpecFault;
 use gta_types::CheckFault;
 use report_text::Refusal;
+use spec_tables::TablesFault;
 use std::alloc::{AllocError, Global};
 use std::thread::Threads;
 use worker_pool::{Gate, OpenGate};
@@ -59,6 +60,33 @@ impl From<SpecFault> for JobEnd {
     }
 }
 
+impl From<TablesFault> for JobEnd {
+    ghost use Rattle.gta_job.specs.Ends.{end_of_tables};
+
+    ghost from_gives = { λ fault end. end ≡ end_of_tables fault };
+
+    fn from(fault: TablesFault) -> JobEnd {
+        match fault {
+            TablesFault::UnitFails {
+                table,
+                element,
+                left,
+            } => JobEnd::Refused(Refusal::UnitFails {
+                table,
+                element,
+                left,
+            }),
+            TablesFault::NotAssociative { table, a, b, c } => {
+                JobEnd::Refused(Refusal::NotAssociative { table, a, b, c })
+            }
+            TablesFault::NotSquare { table, element } => {
+                JobEnd::Refused(Refusal::NotSquare { table, element })
+            }
+            TablesFault::Memory => JobEnd::Memory,
+        }
+    }
+}
+
 impl From<CheckFault> for JobEnd {
     ghost use Rattle.gta_job.specs.Ends.{end_of_checking};
 
@@ -76,21 +104,7 @@ impl From<CheckFault> for JobEnd {
                 JobEnd::Refused(Refusal::LabelsAssign { line, assign })
             }
             CheckFault::Limit { line, limit } => JobEnd::Refused(Refusal::Limit { line, limit }),
-            CheckFault::UnitFails {
-                table,
-                element,
-                left,
-            } => JobEnd::Refused(Refusal::UnitFails {
-                table,
-                element,
-                left,
-            }),
-            CheckFault::NotAssociative { table, a, b, c } => {
-                JobEnd::Refused(Refusal::NotAssociative { table, a, b, c })
-            }
-            CheckFault::NotSquare { table, element } => {
-                JobEnd::Refused(Refusal::NotSquare { table, element })
-            }
+            CheckFault::Table(fault) => JobEnd::from(fault),
             CheckFault::Memory => JobEnd::Memory,
         }
     }

@@ -5,3 +5,4 @@ pub mod Firsts
 pub mod Cells
 pub mod Bodies
 pub mod Refusals
+pub mod Tables

@@ -7,31 +7,28 @@ use Rattle.std.specs.List.{slice_get}
 use Rattle.std.specs.Option.{option_or}
 use Rattle.std.specs.Prelude.{IfSome}
 use Rattle.std.proofs.lemmas.Bool.Decides.{nat_tests}
-use Rattle.std.proofs.lemmas.Option.{same_Some}
+use Rattle.std.proofs.lemmas.Option.{same_Some, IfSome_then}
 use Rattle.gta_spec.specs.declared.limits.TheConstants.{ROW_LIMIT}
 use Rattle.gta_spec.specs.declared.parts.ColumnItem.{ColumnItem}
 use Rattle.gta_rows.specs.declared.fault.RowsFault.{RowsFault}
-use Rattle.gta_rows.specs.declared.fault.RowsFault.TheVariants.{NoHeader, Missing, ColumnTwice}
-use Rattle.gta_rows.specs.declared.fault.RowsFault.TheVariants.{Length, Field, TooMany, Memory}
+use Rattle.gta_rows.specs.declared.fault.RowsFault.TheVariants.{TooMany}
 use Rattle.gta_rows.specs.Fields.{Record, has_no_cell}
-use Rattle.gta_rows.specs.Table.{bad_cell, first_bad_cell, fault_behind, fault_in, missing, no_cell}
-use Rattle.gta_rows.specs.Table.{places, too_many, twice, wrong_length, IsRefusal}
+use Rattle.gta_rows.specs.Table.{bad_cell, first_bad_cell, fault_behind, records_fault, missing, no_cell}
+use Rattle.gta_rows.specs.Table.{fault_in, places, too_many, twice, wrong_length}
 
-pub moved : (o p : Option RowsFault) (fault : RowsFault) → ((e : RowsFault) → o ≡ Some e → p ≡ Some e)
-    → IsRefusal o fault → IsRefusal p fault
-moved o p Memory go is = tt
-moved o p NoHeader go is = go _ is
-moved o p (Missing column) go is = go _ is
-moved o p (ColumnTwice column) go is = go _ is
-moved o p (Length row fields header) go is = go _ is
-moved o p (Field row column) go is = go _ is
-moved o p TooMany go is = go _ is
+-- an end that carries this fault
+abbrev pub Stops : Option RowsFault → RowsFault → Type 0
+Stops fault end = IfSome (fault_in end) (λ told. fault ≡ Some told)
+
+pub moved : (o p : Option RowsFault) (end : RowsFault) → ((e : RowsFault) → o ≡ Some e → p ≡ Some e)
+    → Stops o end → Stops p end
+moved o p end go is = IfSome_then (fault_in end) is go
 
 -- a refusal of the header
 pub under_header : (items : List ColumnItem) (header : Record) (records : List Record) (fault : RowsFault)
-    → IsRefusal (option_or (missing header items) (twice header items)) fault
-    → IsRefusal (fault_in items (header ∷ records)) fault
-unfolding fault_in
+    → Stops (option_or (missing header items) (twice header items)) fault
+    → Stops (records_fault items (header ∷ records)) fault
+unfolding records_fault
 under_header items header records fault = moved _ _ fault (λ e is. by (missing header items) (twice header items) is)
   where
     by : {e : RowsFault} (o p : Option RowsFault) → option_or o p ≡ Some e
@@ -43,14 +40,14 @@ under_header items header records fault = moved _ _ fault (λ e is. by (missing 
 -- a refusal of the records
 whole_fault : (items : List ColumnItem) (header : Record) (records : List Record)
     → missing header items ≡ None → twice header items ≡ None
-    → fault_in items (header ∷ records) ≡ fault_behind header items records
-unfolding fault_in
+    → records_fault items (header ∷ records) ≡ fault_behind header items records
+unfolding records_fault
 whole_fault items header records none_missing none_twice = rw (none_missing, none_twice) refl
 
 pub under_lengths : (items : List ColumnItem) (header : Record) (records : List Record) (width : ℕ)
     (fault : RowsFault)
     → missing header items ≡ None → twice header items ≡ None → width ≡ length header
-    → IsRefusal (wrong_length width records) fault → IsRefusal (fault_in items (header ∷ records)) fault
+    → Stops (wrong_length width records) fault → Stops (records_fault items (header ∷ records)) fault
 unfolding fault_behind
 under_lengths items header records width fault none_missing none_twice wide =
     moved _ _ fault (λ e is. whole_fault items header records none_missing none_twice
@@ -63,7 +60,7 @@ pub cells_fault : (items : List ColumnItem) (header : Record) (records : List Re
     (bad : Option (ℕ × ℕ)) (count : ℕ)
     → missing header items ≡ None → twice header items ≡ None → width ≡ length header
     → wrong_length width records ≡ None → bad ≡ first_bad_cell (places header items) records → count ≡ length records
-    → fault_in items (header ∷ records) ≡ option_or (no_cell items bad) (too_many count)
+    → records_fault items (header ∷ records) ≡ option_or (no_cell items bad) (too_many count)
 unfolding fault_behind
 cells_fault items header records width bad count none_missing none_twice wide lengths is_bad is_count =
     whole_fault items header records none_missing none_twice

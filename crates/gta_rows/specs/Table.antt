@@ -1,17 +1,19 @@
 -- The rows of a table: its records, the places of the declared columns, their cells, and the first
 -- fault in the order of the refusals.
-use Rattle.std.specs.Prelude.{◌≡◌, ℕ, ◌+◌, ℤ, not, List, [], ◌∷◌, length, drop, map, ◌==◌, nat_lt}
+use Rattle.std.specs.Prelude.{◌≡◌, ℕ, ◌+◌, ◌-◌, ℤ, not, List, [], ◌∷◌, length, drop, map, ◌==◌, nat_lt}
 use Rattle.std.specs.Prelude.{if◌then◌else◌, slice_get, slice_index_or, Option, Some, None}
-use Rattle.std.specs.Prelude.{option_map, unwrap_or}
+use Rattle.std.specs.Prelude.{option_map, unwrap_or, Result, Ok}
 use Rattle.std.specs.List.{count_by, enumerate_from, filter_map, find, flat_map, position}
 use Rattle.std.specs.List.{position_or_len}
 use Rattle.std.specs.Option.{option_or}
 use Rattle.std.specs.Str.{bytes_eq}
 use Rattle.csv.specs.Reading.{default_config, records, strip_bom}
+use Rattle.outcome_kit.specs.Outcome.{unless}
 use Rattle.gta_text.specs.Text.{mark_length}
 use Rattle.gta_spec.specs.declared.limits.TheConstants.{ROW_LIMIT}
 use Rattle.gta_spec.specs.declared.parts.ColumnItem.{ColumnItem}
 use Rattle.gta_checked.specs.declared.rows.Rows.{Rows}
+use Rattle.gta_checked.specs.PlainRows.{PlainRows}
 use Rattle.gta_rows.specs.Fields.{Record, trimmed_record, cell_at, has_no_cell}
 use Rattle.gta_rows.specs.declared.fault.RowsFault.{RowsFault}
 use Rattle.gta_rows.specs.declared.fault.RowsFault.TheVariants.{NoHeader, Missing, ColumnTwice}
@@ -82,15 +84,15 @@ fault_behind header items records =
     (too_many (length records)))
 
 -- the first fault of the records, the first of which is the header
-unfoldable pub fault_in : List ColumnItem → List Record → Option RowsFault
-fault_in items [] = Some NoHeader
-fault_in items (header ∷ records) =
+unfoldable pub records_fault : List ColumnItem → List Record → Option RowsFault
+records_fault items [] = Some NoHeader
+records_fault items (header ∷ records) =
     option_or (missing header items)
     (option_or (twice header items) (fault_behind header items records))
 
 -- the first fault of a table, or none
 abbrev pub table_fault : List ColumnItem → List ℕ → Option RowsFault
-table_fault items bytes = fault_in items (table_records bytes)
+table_fault items bytes = records_fault items (table_records bytes)
 
 -- the cells of the columns, record by record
 unfoldable pub cells_of : List ℕ → List Record → List ℤ
@@ -109,16 +111,19 @@ pub record IsTableOf (items : List ColumnItem) (bytes : List ℕ) (rows : Rows) 
   pub columns : rows.columns ≡ length items
   pub cells : rows.cells.items ≡ table_cells items bytes
 
--- a refusal that names this fault; want of memory is free
-abbrev pub IsRefusal : Option RowsFault → RowsFault → Type 0
-IsRefusal fault Memory = Unit {0}
-IsRefusal fault NoHeader = fault ≡ Some NoHeader
-IsRefusal fault (Missing column) = fault ≡ Some (Missing column)
-IsRefusal fault (ColumnTwice column) = fault ≡ Some (ColumnTwice column)
-IsRefusal fault (Length row fields header) = fault ≡ Some (Length row fields header)
-IsRefusal fault (Field row column) = fault ≡ Some (Field row column)
-IsRefusal fault TooMany = fault ≡ Some TooMany
+-- the rows of a table without a fault: the records behind the header, with the cells of the columns
+abbrev pub rows_of : List ColumnItem → List ℕ → PlainRows
+rows_of items bytes = record {
+  count = length (table_records bytes) - 1;
+  columns = length items;
+  cells = table_cells items bytes;
+}
 
--- a refusal names the first fault of the table
-abbrev pub IsFaultOf : List ColumnItem → List ℕ → RowsFault → Type 0
-IsFaultOf items bytes = IsRefusal (table_fault items bytes)
+-- the rows of a table, unless it has a fault
+abbrev pub table_outcome : List ColumnItem → List ℕ → Result PlainRows RowsFault
+table_outcome items bytes = unless (table_fault items bytes) (Ok (rows_of items bytes))
+
+-- the fault that an end tells of; want of memory is none
+abbrev pub fault_in : RowsFault → Option RowsFault
+fault_in Memory = None
+fault_in fault = Some fault

@@ -1,14 +1,15 @@
 //! The cells of the records behind the header, and the first that is none.
 
-ghost use Rattle.std.specs.Prelude.{◌≡◌, ◌+◌, ◌<◌, ◌≤◌, ◌∷◌, [], ◌++◌, None, IfOk, IfErr, OnOk};
+ghost use Rattle.std.specs.Prelude.{◌≡◌, ◌+◌, ◌<◌, ◌≤◌, ◌∷◌, [], ◌++◌, None, IfOk, OnOk};
 ghost use Rattle.std.specs.Prelude.{IsTrue, List, false, is_some, length, option_to_list};
 ghost use Rattle.std.specs.List.{filter_map, list_all, position};
+ghost use Rattle.outcome_kit.specs.Outcome.{Passes};
 ghost use Rattle.gta_text.specs.declared.lines.TheConstants.{INPUT_BOUND};
 ghost use Rattle.gta_spec.specs.declared.limits.TheConstants.{COLUMN_LIMIT};
 ghost use Rattle.gta_checked.specs.Cells.{is_cell};
 ghost use Rattle.gta_rows.specs.Fields.{Record, trimmed_fields, cell_at, has_no_cell};
 ghost use Rattle.gta_rows.specs.Reading.{IsReading, records_left};
-ghost use Rattle.gta_rows.specs.Table.{wrong_length, IsRefusal};
+ghost use Rattle.gta_rows.specs.Table.{fault_in, wrong_length};
 ghost use Rattle.gta_rows.specs.Body.{IsBodyOf};
 
 use crate::fault::RowsFault;
@@ -39,8 +40,7 @@ pub(crate) fn read_body(
     requires reading { IsReading reader.old }
     requires few { length (records_left reader.old) ≤ INPUT_BOUND }
     ensures body { IfOk result (IsBodyOf columns.now (records_left reader.old)) }
-    ensures lengths { OnOk result (wrong_length width (records_left reader.old) ≡ None) }
-    ensures refused { IfErr result (IsRefusal (wrong_length width (records_left reader.old))) }
+    ensures tells { Passes fault_in (wrong_length width (records_left reader.old)) result }
 {
     let mut body = Body {
         count: 0,

@@ -1,12 +1,13 @@
 //! The places of the declared columns in the header. See specs/Table.antt.
 
-ghost use Rattle.std.specs.Prelude.{◌≡◌, ◌<◌, None, IfOk, IfErr, OnOk};
+ghost use Rattle.std.specs.Prelude.{◌≡◌, ◌<◌, None, IfOk, OnOk};
 ghost use Rattle.std.specs.Option.{option_or};
 ghost use Rattle.std.specs.Str.{bytes_eq};
+ghost use Rattle.outcome_kit.specs.Outcome.{Passes};
 ghost use Rattle.gta_rows.specs.Fields.{trimmed_fields};
 ghost use Rattle.gta_rows.specs.Places.{is_at};
 ghost use Rattle.gta_rows.specs.Table.{header_text, times_in, place_in, places, missing, twice};
-ghost use Rattle.gta_rows.specs.Table.{IsRefusal};
+ghost use Rattle.gta_rows.specs.Table.{fault_in};
 
 use crate::fault::RowsFault;
 use crate::fields::field_at;
@@ -26,9 +27,8 @@ pub(crate) fn places_of(
         ≡ places (trimmed_fields header.now) items.now) }
     ensures none_missing { OnOk result (missing (trimmed_fields header.now) items.now ≡ None) }
     ensures none_twice { OnOk result (twice (trimmed_fields header.now) items.now ≡ None) }
-    ensures refused { IfErr result (IsRefusal
-        (option_or (missing (trimmed_fields header.now) items.now)
-        (twice (trimmed_fields header.now) items.now))) }
+    ensures tells { let header = trimmed_fields header.now in
+        Passes fault_in (option_or (missing header items.now) (twice header items.now)) result }
 {
     check_present(alloc, items, header)?;
     check_once(alloc, items, header)?;
@@ -40,8 +40,7 @@ pub(crate) fn places_of(
 }
 
 fn check_present(alloc: Global, items: &[ColumnItem], header: &ByteRecord) -> Result<(), RowsFault>
-    ensures present { OnOk result (missing (trimmed_fields header.now) items.now ≡ None) }
-    ensures refused { IfErr result (IsRefusal (missing (trimmed_fields header.now) items.now)) }
+    ensures tells { Passes fault_in (missing (trimmed_fields header.now) items.now) result }
 {
     for item in items {
         if times_in(header, header_text(item)) == 0 {
@@ -53,8 +52,7 @@ fn check_present(alloc: Global, items: &[ColumnItem], header: &ByteRecord) -> Re
 }
 
 fn check_once(alloc: Global, items: &[ColumnItem], header: &ByteRecord) -> Result<(), RowsFault>
-    ensures once { OnOk result (twice (trimmed_fields header.now) items.now ≡ None) }
-    ensures refused { IfErr result (IsRefusal (twice (trimmed_fields header.now) items.now)) }
+    ensures tells { Passes fault_in (twice (trimmed_fields header.now) items.now) result }
 {
     for item in items {
         if times_in(header, header_text(item)) > 1 {

@@ -1,17 +1,19 @@
 //! The table of an input, read into rows. See specs/Table.antt.
 
-ghost use Rattle.std.specs.Prelude.{◌≡◌, ◌+◌, ◌*◌, ◌<◌, ◌≤◌, ◌∷◌, None, IfOk, IfErr, IfSome, OnOk};
+ghost use Rattle.std.specs.Prelude.{◌≡◌, ◌+◌, ◌*◌, ◌<◌, ◌≤◌, ◌∷◌, None, IfOk, IfSome, OnOk};
 ghost use Rattle.std.specs.Prelude.{IsTrue, drop, length};
 ghost use Rattle.std.specs.List.{list_all};
 ghost use Rattle.std.specs.Option.{option_or};
+ghost use Rattle.outcome_kit.specs.Outcome.{Passes, Tells};
 ghost use Rattle.gta_text.specs.declared.lines.TheConstants.{INPUT_BOUND};
 ghost use Rattle.gta_text.specs.Text.{mark_length};
 ghost use Rattle.gta_spec.specs.declared.limits.TheConstants.{COLUMN_LIMIT, ROW_LIMIT};
 ghost use Rattle.gta_checked.specs.Cells.{is_cell};
+ghost use Rattle.gta_checked.specs.PlainRows.{plain_rows};
 ghost use Rattle.gta_rows.specs.Fields.{trimmed_fields};
 ghost use Rattle.gta_rows.specs.Reading.{IsReading, records_left};
-ghost use Rattle.gta_rows.specs.Table.{table_fault, IsTableOf, IsFaultOf};
-ghost use Rattle.gta_rows.specs.Table.{fault_in, cells_in, no_cell, too_many, IsRefusal};
+ghost use Rattle.gta_rows.specs.Table.{fault_in, table_outcome, IsTableOf};
+ghost use Rattle.gta_rows.specs.Table.{cells_in, no_cell, records_fault, too_many};
 
 use crate::body::{Body, read_body};
 use crate::fault::RowsFault;
@@ -31,9 +33,8 @@ use std::alloc::Global;
 /// variants is answered, each looked for over all records.
 pub fn read_rows(alloc: Global, checked: &Checked, bytes: &[u8]) -> Result<Rows, RowsFault>
     requires { length bytes.now ≤ INPUT_BOUND }
+    ensures tells { Tells fault_in plain_rows (table_outcome checked.now.columns bytes.now) result }
     ensures table { IfOk result (IsTableOf checked.now.columns bytes.now) }
-    ensures accepted { OnOk result (table_fault checked.now.columns bytes.now ≡ None) }
-    ensures refused { IfErr result (IsFaultOf checked.now.columns bytes.now) }
 {
     let mut reader = reader_of(alloc, without_mark(bytes));
     let mut header = ByteRecord::new(alloc);
@@ -69,10 +70,8 @@ fn rows_under(
     ensures columns { IfOk result (λ rows. rows.columns ≡ length items.now) }
     ensures cells { IfOk result (λ rows. rows.cells.items
         ≡ cells_in items.now (trimmed_fields header.now ∷ records_left reader.old)) }
-    ensures accepted { OnOk result
-        (fault_in items.now (trimmed_fields header.now ∷ records_left reader.old) ≡ None) }
-    ensures refused { IfErr result (IsRefusal
-        (fault_in items.now (trimmed_fields header.now ∷ records_left reader.old))) }
+    ensures tells { let records = trimmed_fields header.now ∷ records_left reader.old in
+        Passes fault_in (records_fault items.now records) result }
 {
     let columns = places_of(alloc, items, header)?;
     let body = read_body(alloc, columns.as_slice(), header.len(), reader)?;
@@ -92,8 +91,7 @@ fn rows_of(alloc: Global, items: &[ColumnItem], body: Body) -> Result<Rows, Rows
     ensures cells { IfOk result (λ rows. rows.cells ≡ body.cells) }
     ensures good { OnOk result (body.bad ≡ None) }
     ensures few { OnOk result (body.count ≤ ROW_LIMIT) }
-    ensures refused { IfErr result
-        (IsRefusal (option_or (no_cell items.now body.bad) (too_many body.count))) }
+    ensures tells { Passes fault_in (option_or (no_cell items.now body.bad) (too_many body.count)) result }
 {
     if let Some((row, column)) = body.bad {
         let column = Name::of(alloc, items[column as usize].name.bytes())?;

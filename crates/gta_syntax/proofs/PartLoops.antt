@@ -2,6 +2,7 @@
 use Rattle.std.proofs.Common.{◌≡◌, ℕ, true, false, List, [], ◌∷◌, ◌++◌, refl, sym, ◌∙◌, append_assoc}
 use Rattle.std.proofs.lemmas.List.{append-nil}
 use Rattle.std.specs.Prelude.{Some, None, Result, Ok, Err}
+use Rattle.outcome_kit.specs.Outcome.{Carries}
 use Rattle.gta_text.specs.Text.{Numbered}
 use Rattle.gta_syntax.specs.declared.fault.SpecFault.{SpecFault}
 use Rattle.gta_syntax.specs.declared.fault.SpecFault.TheVariants.{Byte, Version, Grammar, Number, NoRows, Memory}
@@ -9,7 +10,7 @@ use Rattle.gta_spec.specs.Parts.{PartTree}
 use Rattle.gta_spec.specs.Symbols.{symbols}
 use Rattle.gta_syntax.specs.Rules.{part_at}
 use Rattle.gta_spec.specs.SpecText.{has_past}
-use Rattle.gta_syntax.specs.Refusals.{first_past, the_part, with_part, parts_from, Refuses}
+use Rattle.gta_syntax.specs.Refusals.{first_past, the_part, with_part, parts_from, fault_in}
 
 pub past_here : (source : List ℕ) (line : Numbered) (lines : List Numbered) → has_past source line.tokens ≡ true
     → first_past source (line ∷ lines) ≡ Some line.number
@@ -69,7 +70,9 @@ parts_at_refusal {source = source} {front = front} {line = line} {lines = lines}
     sym so_far.joined ∙ one
 
 pub parts_at_fault : {source : List ℕ} {front : List PartTree} {line : Numbered} {lines : List Numbered} {whole : Result (List PartTree) SpecFault}
-    → PartsSoFar source front (line ∷ lines) whole → (fault : SpecFault) → Refuses fault (the_part line.number (part_at (symbols source line.tokens))) → Refuses fault whole
+    → PartsSoFar source front (line ∷ lines) whole → (fault : SpecFault)
+    → Carries (the_part line.number (part_at (symbols source line.tokens))) (fault_in fault)
+    → Carries whole (fault_in fault)
 parts_at_fault so_far (Byte l p) is = parts_at_refusal so_far _ is
 parts_at_fault so_far (Version l) is = parts_at_refusal so_far _ is
 parts_at_fault so_far (Grammar l) is = parts_at_refusal so_far _ is

@@ -2,6 +2,7 @@
 use Rattle.std.proofs.Common.{◌≡◌, ℕ, true, false, cond, ◌||◌, List, [], ◌∷◌, refl, sym, ap, subst, ◌∙◌, rules, ◌≢◌}
 use Rattle.std.specs.Prelude.{Option, Some, None, Result, Ok, Err, IfOk, IsErrOf}
 use Rattle.std.specs.List.{list_any}
+use Rattle.outcome_kit.specs.Outcome.{Carries, Tells}
 use Rattle.gta_text.specs.Text.{Numbered, Found, BadByte, read_lines}
 use Rattle.gta_syntax.specs.declared.fault.SpecFault.{SpecFault}
 use Rattle.gta_syntax.specs.declared.fault.SpecFault.TheVariants.{Byte, Version, Grammar, Number, NoRows, Memory}
@@ -11,7 +12,8 @@ use Rattle.gta_spec.specs.Symbols.{symbols}
 use Rattle.gta_spec.specs.Grammar.{IsPart}
 use Rattle.gta_syntax.specs.Rules.{part_at}
 use Rattle.gta_spec.specs.SpecText.{is_version, has_past, AreParts, none, some, SpecText}
-use Rattle.gta_syntax.specs.Refusals.{ReadTree, first_past, the_part, with_part, parts_from, with_numbers, with_parts, with_lines, with_text, spec_of, read_tree, Refuses, Answers}
+use Rattle.gta_syntax.specs.Refusals.{ReadTree, fault_in, first_past, parts_from, read_tree, spec_of, the_part}
+use Rattle.gta_syntax.specs.Refusals.{with_lines, with_numbers, with_part, with_parts, with_text}
 use Rattle.gta_syntax.specs.Refused.{IsFirstOutside, IsFirstPast, IsRefused}
 use Rattle.gta_syntax.specs.ByGrammar.{GivesTexts, GivesRefusals}
 use Rattle.gta_spec.specs.WellFormed.{IsWellFormed}
@@ -161,15 +163,18 @@ gives_refusals bytes fault = (refused_as bytes fault, refused_again)
 
 -- what was answered
 
-pub found : (bytes : List ℕ) (result : Result Read SpecFault) → Answers read_tree result (spec_of bytes) → IfOk result (λ read. SpecText bytes (spec_tree read.spec) read.rows_at)
+pub found : (bytes : List ℕ) (result : Result Read SpecFault) → Tells fault_in read_tree (spec_of bytes) result
+    → IfOk result (λ read. SpecText bytes (spec_tree read.spec) read.rows_at)
 found bytes (Ok read) e = read_as bytes (spec_tree read.spec) read.rows_at e
 found bytes (Err fault) e = search rules
 
-pub fits : (bytes : List ℕ) (result : Result Read SpecFault) → Answers read_tree result (spec_of bytes) → IfOk result (λ read. IsWellFormed (spec_tree read.spec))
+pub fits : (bytes : List ℕ) (result : Result Read SpecFault) → Tells fault_in read_tree (spec_of bytes) result
+    → IfOk result (λ read. IsWellFormed (spec_tree read.spec))
 fits bytes (Ok read) e = is_well_formed bytes (spec_tree read.spec) read.rows_at (found bytes (Ok read) e)
 fits bytes (Err fault) e = search rules
 
-refused_by : (bytes : List ℕ) (fault : SpecFault) → Refuses fault (spec_of bytes) → fault ≢ Memory → IsRefused bytes fault
+refused_by : (bytes : List ℕ) (fault : SpecFault) → Carries (spec_of bytes) (fault_in fault) → fault ≢ Memory
+    → IsRefused bytes fault
 refused_by bytes (Byte l p) e other = refused_as bytes _ e
 refused_by bytes (Version l) e other = refused_as bytes _ e
 refused_by bytes (Grammar l) e other = refused_as bytes _ e
@@ -177,17 +182,22 @@ refused_by bytes (Number l) e other = refused_as bytes _ e
 refused_by bytes NoRows e other = refused_as bytes _ e
 refused_by bytes Memory e other = absurd (other refl)
 
-pub refused : (bytes : List ℕ) (result : Result Read SpecFault) → Answers read_tree result (spec_of bytes) → (fault : SpecFault) → IsErrOf result fault → fault ≢ Memory → IsRefused bytes fault
+pub refused : (bytes : List ℕ) (result : Result Read SpecFault) → Tells fault_in read_tree (spec_of bytes) result
+    → (fault : SpecFault) → IsErrOf result fault → fault ≢ Memory → IsRefused bytes fault
 refused bytes result e fault is other =
-    let P : Result Read SpecFault → Type 0 = λ r. Answers read_tree r (spec_of bytes) in
+    let P : Result Read SpecFault → Type 0 = λ r. Tells fault_in read_tree (spec_of bytes) r in
     refused_by bytes fault (subst P is e) other
 
-pub only : (bytes : List ℕ) (result : Result Read SpecFault) → Answers read_tree result (spec_of bytes) → (spec : SpecTree) (place : ℕ) → SpecText bytes spec place
-    → Answers read_tree result (Ok (record { spec = spec; rows_at = place }))
+pub only : (bytes : List ℕ) (result : Result Read SpecFault) → Tells fault_in read_tree (spec_of bytes) result
+    → (spec : SpecTree) (place : ℕ) → SpecText bytes spec place
+    → Tells fault_in read_tree (Ok (record { spec = spec; rows_at = place })) result
 only bytes result e spec place text =
-    let P : Result ReadTree SpecFault → Type 0 = λ r. Answers read_tree result r in subst P (spec_again text) e
+    let P : Result ReadTree SpecFault → Type 0 = λ r. Tells fault_in read_tree r result in
+    subst P (spec_again text) e
 
-pub refuses : (bytes : List ℕ) (result : Result Read SpecFault) → Answers read_tree result (spec_of bytes) → (fault : SpecFault) → IsRefused bytes fault
-    → Answers read_tree result (Err fault)
+pub refuses : (bytes : List ℕ) (result : Result Read SpecFault) → Tells fault_in read_tree (spec_of bytes) result
+    → (fault : SpecFault) → IsRefused bytes fault
+    → Tells fault_in read_tree (Err fault) result
 refuses bytes result e fault stands =
-    let P : Result ReadTree SpecFault → Type 0 = λ r. Answers read_tree result r in subst P (refused_again stands) e
+    let P : Result ReadTree SpecFault → Type 0 = λ r. Tells fault_in read_tree r result in
+    subst P (refused_again stands) e

@@ -67,15 +67,7 @@ with_text source (Ok found) = with_lines source found.lines found.rows_at
 unfoldable pub spec_of : List ℕ → Result ReadTree SpecFault
 spec_of bytes = with_text bytes (read_lines bytes)
 
--- what a function returned, seen by view, is what reading gives, unless memory ran out
-abbrev pub Refuses : {V : Type 0} → SpecFault → Result V SpecFault → Type 0
-Refuses (Byte line place) read = read ≡ Err (Byte line place)
-Refuses (Version line) read = read ≡ Err (Version line)
-Refuses (Grammar line) read = read ≡ Err (Grammar line)
-Refuses (Number line) read = read ≡ Err (Number line)
-Refuses NoRows read = read ≡ Err NoRows
-Refuses Memory read = Unit {0}
-
-abbrev pub Answers : {X V : Type 0} → (X → V) → Result X SpecFault → Result V SpecFault → Type 0
-Answers view (Ok x) read = read ≡ Ok (view x)
-Answers view (Err fault) read = Refuses fault read
+-- the refusal that an end tells of; want of memory is none
+abbrev pub fault_in : SpecFault → Option SpecFault
+fault_in Memory = None
+fault_in fault = Some fault

@@ -1,6 +1,7 @@
 //! Reading a specification. The refusals in their order are in specs/Refused.antt, and as a
 //! function in specs/Refusals.antt; which specification a text is, is in gta_spec.
 ghost use Rattle.std.specs.Prelude.{◌≡◌, ◌≢◌, ℕ, ◌≤◌, length, map, Ok, Err, IfOk, IsErrOf};
+ghost use Rattle.outcome_kit.specs.Outcome.{Tells};
 ghost use Rattle.gta_text.specs.Text.{line_view};
 ghost use Rattle.gta_text.specs.declared.lines.TheConstants.{INPUT_BOUND};
 ghost use Rattle.gta_spec.specs.Parts.{part_tree, SpecTree, spec_tree};
@@ -12,7 +13,7 @@ ghost use Rattle.gta_syntax.specs.Refused.{IsRefused};
 ghost use Rattle.gta_syntax.specs.declared.fault.SpecFault.{SpecFault};
 ghost use Rattle.gta_syntax.specs.declared.fault.SpecFault.TheVariants.{Memory};
 ghost use Rattle.gta_syntax.specs.Refusals.{first_past, the_part, parts_from, read_tree};
-ghost use Rattle.gta_syntax.specs.Refusals.{spec_of, Answers};
+ghost use Rattle.gta_syntax.specs.Refusals.{fault_in, spec_of};
 
 use crate::fault::{LineFault, SpecFault};
 use crate::line_rules::part_at;
@@ -36,16 +37,16 @@ pub fn read_spec(alloc: Global, bytes: &[u8]) -> Result<Read, SpecFault>
     ensures well_formed { IfOk result (λ read. IsWellFormed (spec_tree read.spec)) }
     // A text that is a specification is read, unless memory runs out.
     ensures only { (spec : SpecTree) (place : ℕ) → SpecText bytes.now spec place
-        → Answers read_tree result (Ok (record { spec = spec; rows_at = place })) }
+        → Tells fault_in read_tree (Ok (record { spec = spec; rows_at = place })) result }
 
     // Each refusal comes where it stands, and only there.
     ensures refused { (fault : SpecFault) → IsErrOf result fault → fault ≢ Memory
         → IsRefused bytes.now fault }
     ensures refuses { (fault : SpecFault) → IsRefused bytes.now fault
-        → Answers read_tree result (Err fault) }
+        → Tells fault_in read_tree (Err fault) result }
 
     // The same by a function of the bytes.
-    ensures exact { Answers read_tree result (spec_of bytes.now) }
+    ensures tells { Tells fault_in read_tree (spec_of bytes.now) result }
 {
     answer_of(alloc, bytes)
 }
@@ -53,7 +54,7 @@ pub fn read_spec(alloc: Global, bytes: &[u8]) -> Result<Read, SpecFault>
 #[tactic(auto, unfolding(crate::specs::Refusals::spec_of))]
 fn answer_of(alloc: Global, bytes: &[u8]) -> Result<Read, SpecFault>
     requires { length bytes.now ≤ INPUT_BOUND }
-    ensures { Answers read_tree result (spec_of bytes.now) }
+    ensures { Tells fault_in read_tree (spec_of bytes.now) result }
 {
     let lines = lines_of(alloc, bytes)?;
     let Some((first, others)) = lines.lines.split_first() else {
@@ -89,8 +90,8 @@ fn is_version(source: &[u8], tokens: &[Token]) -> bool
 
 /// The parts of the lines; `Grammar` names the first line that has none.
 fn parts_of(alloc: Global, source: &[u8], lines: &[Line]) -> Result<Vec<Part>, SpecFault>
-    ensures { Answers (λ parts. map part_tree parts.items) result
-        (parts_from source.now (map line_view lines.now)) }
+    ensures { Tells fault_in (λ parts. map part_tree parts.items)
+        (parts_from source.now (map line_view lines.now)) result }
 {
     let mut parts = Vec::new(alloc);
     for line in lines {
@@ -101,8 +102,8 @@ fn parts_of(alloc: Global, source: &[u8], lines: &[Line]) -> Result<Vec<Part>, S
 }
 
 fn part_of(alloc: Global, source: &[u8], line: &Line) -> Result<Part, SpecFault>
-    ensures { Answers part_tree result
-        (the_part line.now.number (part_at (symbols source.now line.now.tokens.items))) }
+    ensures { Tells fault_in part_tree
+        (the_part line.now.number (part_at (symbols source.now line.now.tokens.items))) result }
 {
     let number = line.number;
     match part_at(alloc, source, &line.tokens) {

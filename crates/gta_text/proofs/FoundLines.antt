@@ -3,12 +3,13 @@ use Rattle.std.proofs.Common.{◌≡◌, ℕ, zero, suc, ◌+◌, ◌-◌, ◌�
 use Rattle.std.proofs.lemmas.List.{take-append-drop, append-nil}
 use Rattle.std.specs.Prelude.{Option, Some, None, Result, Ok, Err, IfOk, ◌==◌, ◌&&◌, slice_index, nat_lt, nat_eq}
 use Rattle.std.specs.List.{concat, onto_first, starts_with}
+use Rattle.outcome_kit.specs.Outcome.{Tells}
 use Rattle.gta_text.specs.declared.token.Token.{Token}
 use Rattle.gta_text.specs.Tokens.{is_blank, token_at, tokens_from}
 use Rattle.gta_text.specs.declared.lines.Lines.{Lines}
 use Rattle.gta_text.specs.declared.fault.TextFault.{TextFault}
 use Rattle.gta_text.proofs.Slices.{pick, both_right, token_within}
-use Rattle.gta_text.specs.Text.{raw_lines, without_last, content, first_bad, is_rows, Numbered, Found, BadByte, line_if, with_lines, unless_bad, lines_from, mark_length, read_lines, AreInOrder, IsHeld, AreHeld, Gives, lines_view}
+use Rattle.gta_text.specs.Text.{raw_lines, without_last, content, first_bad, is_rows, Numbered, Found, BadByte, line_if, with_lines, unless_bad, lines_from, mark_length, read_lines, AreInOrder, IsHeld, AreHeld, fault_in, lines_view}
 
 lower_order : (low lo hi : ℕ) (tokens : List Token) → low ≤ lo → AreInOrder lo hi tokens → AreInOrder low hi tokens
 lower_order low lo hi [] le ordered = tt
@@ -126,6 +127,7 @@ text_held bs =
     lines_held bs (raw_lines (drop (mark_length bs) bs)) (take (mark_length bs) bs) 1 (mark_length bs)
     (sym (take-append-drop (mark_length bs) bs) ∙ ap (λ (xs : List ℕ). take (mark_length bs) bs ++ xs) (sym (concat_raw (drop (mark_length bs) bs)))) (mark_front bs)
 
-pub result_held : (bs : List ℕ) (result : Result Lines TextFault) → Gives lines_view result (read_lines bs) → IfOk result (λ lines. AreHeld bs 1 (lines_view lines).lines)
+pub result_held : (bs : List ℕ) (result : Result Lines TextFault) → Tells fault_in lines_view (read_lines bs) result
+    → IfOk result (λ lines. AreHeld bs 1 (lines_view lines).lines)
 result_held bs (Ok lines) e = let P : Result Found BadByte → Type 0 = HeldIn bs 1 in subst P e (text_held bs)
 result_held bs (Err fault) e = search rules

@@ -105,14 +105,10 @@ line_view line = record { number = line.number; tokens = line.tokens.items }
 abbrev pub lines_view : Lines → Found
 lines_view lines = record { lines = map line_view lines.lines.items; rows_at = lines.rows_at }
 
--- what was returned, seen by view, is what reading gives, unless memory ran out
-abbrev pub Fails : {Y : Type 0} → TextFault → Result Y BadByte → Type 0
-Fails Memory read = Unit {0}
-Fails (Byte line place) read = read ≡ Err (record { line = line; place = place })
-
-abbrev pub Gives : {X Y : Type 0} → (X → Y) → Result X TextFault → Result Y BadByte → Type 0
-Gives view (Ok x) read = read ≡ Ok (view x)
-Gives view (Err fault) read = Fails fault read
+-- the byte that a fault names; want of memory names none
+abbrev pub fault_in : TextFault → Option BadByte
+fault_in (Byte line place) = Some (record { line = line; place = place })
+fault_in Memory = None
 
 -- tokens between two places, in order, each with a byte or more
 abbrev pub AreInOrder : ℕ → ℕ → List Token → Type 0

@@ -4,10 +4,11 @@ ghost use Rattle.std.specs.Prelude.{◌≡◌, ◌+◌, ◌<◌, ◌≤◌, ◌+
 ghost use Rattle.std.specs.Prelude.{IfOk, IfSome, OnOk};
 ghost use Rattle.std.specs.List.{prefix_len};
 ghost use Rattle.std.specs.Str.{bytes_eq};
+ghost use Rattle.outcome_kit.specs.Outcome.{Tells};
 ghost use Rattle.gta_text.specs.Lines.{is_inside};
 ghost use Rattle.gta_text.specs.Text.{without_last, content, is_plain, first_bad, is_rows};
 ghost use Rattle.gta_text.specs.Text.{mark_length, read_lines, line_view, line_if, lines_view};
-ghost use Rattle.gta_text.specs.Text.{Gives, AreHeld};
+ghost use Rattle.gta_text.specs.Text.{fault_in, AreHeld};
 
 use crate::fault::TextFault;
 use crate::token::{Token, TokenKind};
@@ -38,7 +39,7 @@ pub struct Lines {
 /// 126.
 pub fn lines_of(alloc: Global, bytes: &[u8]) -> Result<Lines, TextFault>
     requires { length bytes.now ≤ INPUT_BOUND }
-    ensures exact { Gives lines_view result (read_lines bytes.now) }
+    ensures tells { Tells fault_in lines_view (read_lines bytes.now) result }
     // Tokens are slices of the text, in order, and the lines' numbers ascend.
     ensures held { IfOk result (λ lines. AreHeld bytes.now 1 (lines_view lines).lines) }
 {
@@ -47,7 +48,7 @@ pub fn lines_of(alloc: Global, bytes: &[u8]) -> Result<Lines, TextFault>
 
 fn read_lines(alloc: Global, bytes: &[u8]) -> Result<Lines, TextFault>
     requires { length bytes.now ≤ INPUT_BOUND }
-    ensures { Gives lines_view result (read_lines bytes.now) }
+    ensures { Tells fault_in lines_view (read_lines bytes.now) result }
 {
     let mark = mark_length(bytes);
     let mut lines = Vec::new(alloc);

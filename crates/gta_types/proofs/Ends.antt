@@ -1,72 +1,77 @@
--- The first fault of a specification, from those of its names, its rules and its tables.
-use Rattle.std.proofs.Common.{◌≡◌, Option, Some, None, option_map, ap, ◌∙◌}
+-- The outcome of a specification, from the faults of its names, its rules and its tables.
+use Rattle.std.proofs.Common.{◌≡◌, map, Option, Some, None, Ok, option_map, sym, ap, ◌∙◌}
+use Rattle.std.specs.Prelude.{IfSome}
 use Rattle.std.specs.Option.{option_or}
+use Rattle.std.proofs.lemmas.Option.{IfSome_then}
+use Rattle.outcome_kit.specs.Outcome.{unless, Carries}
+use Rattle.outcome_kit.proofs.Outcomes.{unless-Carries, unless-Err}
+use Rattle.gta_checked.specs.Plain.{PlainChecked}
 use Rattle.gta_spec.specs.Parts.{SpecTree}
 use Rattle.spec_rules.specs.declared.fault.RuleFault.{RuleFault}
 use Rattle.spec_rules.specs.declared.fault.RuleFault.TheVariants as rules
 use Rattle.spec_rules.specs.SpecRules.{rule_fault}
 use Rattle.spec_tables.specs.declared.fault.TablesFault.{TablesFault}
-use Rattle.spec_tables.specs.declared.fault.TablesFault.TheVariants as tables
-use Rattle.spec_tables.specs.Faults as told
+use Rattle.spec_tables.specs.Tables.{named_table, tables_in}
+use Rattle.spec_tables.specs.Faults.{tables_fault, tables_outcome}
 use Rattle.gta_types.specs.declared.fault.CheckFault.{CheckFault}
-use Rattle.gta_types.specs.declared.fault.CheckFault.TheVariants as faults
-use Rattle.gta_types.specs.Faults.{name_fault, check_fault, fault_of_rule, fault_of_table, IsEndBy, IsFaultOf}
+use Rattle.gta_types.specs.declared.fault.CheckFault.TheVariants.{Table}
+use Rattle.gta_types.specs.Faults.{name_fault, check_fault, fault_in, fault_of_rule}
+use Rattle.gta_types.specs.Resolved.{IsResolved}
+use Rattle.gta_types.specs.ResolvedOf.{checked_outcome, resolved-is, resolved_of}
 
 -- the fault of the tables
 abbrev of_tables : SpecTree → Option CheckFault
-of_tables spec = option_map fault_of_table (told.tables_fault spec.parts)
+of_tables spec = option_map Table (tables_fault spec.parts)
 
-named : (spec : SpecTree) (fault : CheckFault) → name_fault spec.parts ≡ Some fault → check_fault spec ≡ Some fault
-unfolding check_fault
-named spec fault e = ap (λ (o : Option CheckFault). option_or o
-    (option_or (option_map fault_of_rule (rule_fault spec)) (of_tables spec))) e
+module _ (spec : SpecTree) where
+  stopped : (fault : CheckFault) → check_fault spec ≡ Some fault → Carries (checked_outcome spec) (Some fault)
+  stopped fault is = ap (λ (o : Option CheckFault). unless o (Ok (resolved_of spec))) is
 
-pub end_of_names : (spec : SpecTree) (fault : CheckFault) → IsEndBy (name_fault spec.parts) fault → IsFaultOf spec fault
-end_of_names spec (faults.Unknown line name) e = named spec _ e
-end_of_names spec (faults.Twice line name) e = named spec _ e
-end_of_names spec (faults.Missing part) e = named spec _ e
-end_of_names spec (faults.SecondPart line part) e = named spec _ e
-end_of_names spec (faults.LabelsAssign line assign) e = named spec _ e
-end_of_names spec (faults.Limit line limit) e = named spec _ e
-end_of_names spec (faults.UnitFails table element left) e = named spec _ e
-end_of_names spec (faults.NotAssociative table a b c) e = named spec _ e
-end_of_names spec (faults.NotSquare table element) e = named spec _ e
-end_of_names spec faults.Memory e = tt
+  named : (fault : CheckFault) → name_fault spec.parts ≡ Some fault → check_fault spec ≡ Some fault
+  unfolding check_fault
+  named fault e = ap (λ (o : Option CheckFault). option_or o
+      (option_or (option_map fault_of_rule (rule_fault spec)) (of_tables spec))) e
 
-after_names : (spec : SpecTree) → name_fault spec.parts ≡ None
-    → check_fault spec ≡ option_or (option_map fault_of_rule (rule_fault spec)) (of_tables spec)
-unfolding check_fault
-after_names spec e =
-    ap (λ (o : Option CheckFault). option_or o (option_or (option_map fault_of_rule (rule_fault spec))
-    (of_tables spec))) e
+  pub end_of_names : (fault : CheckFault) → IfSome (fault_in fault) (λ told. name_fault spec.parts ≡ Some told)
+      → Carries (checked_outcome spec) (fault_in fault)
+  end_of_names fault names =
+      unless-Carries (check_fault spec) (Ok (resolved_of spec)) (fault_in fault)
+      (IfSome_then (fault_in fault) names (λ told is. named told is))
 
-broken : (spec : SpecTree) (rule : RuleFault) → name_fault spec.parts ≡ None → rule_fault spec ≡ Some rule
-    → check_fault spec ≡ Some (fault_of_rule rule)
-broken spec rule names e = after_names spec names
-    ∙ ap (λ (o : Option RuleFault). option_or (option_map fault_of_rule o) (of_tables spec)) e
+  module _ (names : name_fault spec.parts ≡ None) where
+    after_names : check_fault spec ≡ option_or (option_map fault_of_rule (rule_fault spec)) (of_tables spec)
+    unfolding check_fault
+    after_names =
+        ap (λ (o : Option CheckFault). option_or o (option_or (option_map fault_of_rule (rule_fault spec))
+        (of_tables spec))) names
 
-pub end_of_rule : (spec : SpecTree) (rule : RuleFault) → name_fault spec.parts ≡ None → rule_fault spec ≡ Some rule
-    → IsFaultOf spec (fault_of_rule rule)
-end_of_rule spec (rules.Missing part) names e = broken spec _ names e
-end_of_rule spec (rules.SecondPart line part) names e = broken spec _ names e
-end_of_rule spec (rules.LabelsAssign line assign) names e = broken spec _ names e
-end_of_rule spec (rules.Limit line limit) names e = broken spec _ names e
+    broken : (rule : RuleFault) → rule_fault spec ≡ Some rule
+        → Carries (checked_outcome spec) (Some (fault_of_rule rule))
+    broken rule is = stopped (fault_of_rule rule)
+        (after_names ∙ ap (λ (o : Option RuleFault). option_or (option_map fault_of_rule o) (of_tables spec)) is)
 
-after_rules : (spec : SpecTree) → name_fault spec.parts ≡ None → rule_fault spec ≡ None
-    → check_fault spec ≡ of_tables spec
-after_rules spec names rule = after_names spec names
-    ∙ ap (λ (o : Option RuleFault). option_or (option_map fault_of_rule o) (of_tables spec)) rule
+    pub end_of_rule : (rule : RuleFault) → rule_fault spec ≡ Some rule
+        → Carries (checked_outcome spec) (fault_in (fault_of_rule rule))
+    end_of_rule (rules.Missing part) is = broken _ is
+    end_of_rule (rules.SecondPart line part) is = broken _ is
+    end_of_rule (rules.LabelsAssign line assign) is = broken _ is
+    end_of_rule (rules.Limit line limit) is = broken _ is
 
-pub no_end : (spec : SpecTree) → name_fault spec.parts ≡ None → rule_fault spec ≡ None
-    → told.tables_fault spec.parts ≡ None → check_fault spec ≡ None
-no_end spec names rule none = after_rules spec names rule ∙ ap (option_map fault_of_table) none
+    module _ (kept : rule_fault spec ≡ None) where
+      after_rules : check_fault spec ≡ of_tables spec
+      after_rules = after_names
+          ∙ ap (λ (o : Option RuleFault). option_or (option_map fault_of_rule o) (of_tables spec)) kept
 
-pub end_of_tables : (spec : SpecTree) (fault : TablesFault) → name_fault spec.parts ≡ None → rule_fault spec ≡ None
-    → told.IsEndBy (told.tables_fault spec.parts) fault → IsFaultOf spec (fault_of_table fault)
-end_of_tables spec (tables.UnitFails table element left) names rule e =
-    after_rules spec names rule ∙ ap (option_map fault_of_table) e
-end_of_tables spec (tables.NotAssociative table a b c) names rule e =
-    after_rules spec names rule ∙ ap (option_map fault_of_table) e
-end_of_tables spec (tables.NotSquare table element) names rule e =
-    after_rules spec names rule ∙ ap (option_map fault_of_table) e
-end_of_tables spec tables.Memory names rule e = tt
+      pub end_of_tables : (end : Option TablesFault) → Carries (tables_outcome spec.parts) end
+          → Carries (checked_outcome spec) (option_map Table end)
+      end_of_tables None is = tt
+      end_of_tables (Some fault) is = stopped (Table fault)
+          (after_rules ∙ ap (option_map Table)
+          (unless-Err (tables_fault spec.parts) (map (named_table spec.parts) (tables_in spec.parts)) fault is))
+
+      -- without a fault it is the resolved specification
+      pub no_end : (checked : PlainChecked) → tables_fault spec.parts ≡ None → IsResolved spec checked
+          → checked_outcome spec ≡ Ok checked
+      no_end checked none is =
+          ap (λ (o : Option CheckFault). unless o (Ok (resolved_of spec))) (after_rules ∙ ap (option_map Table) none)
+          ∙ ap Ok (sym (resolved-is is))

@@ -1,5 +1,5 @@
 -- The faults of a specification in their order.
-use Rattle.std.specs.Prelude.{◌≡◌, ℕ, List, Option, Some, option_map, codes}
+use Rattle.std.specs.Prelude.{ℕ, List, Option, Some, None, option_map, codes}
 use Rattle.std.specs.Option.{option_or}
 use Rattle.gta_spec.specs.Parts.{PartTree, SpecTree}
 use Rattle.spec_rules.specs.declared.fault.SinglePart.{SinglePart}
@@ -9,8 +9,7 @@ use Rattle.spec_rules.specs.declared.fault.Limit.TheVariants as limits
 use Rattle.spec_rules.specs.declared.fault.RuleFault.{RuleFault}
 use Rattle.spec_rules.specs.declared.fault.RuleFault.TheVariants as rules
 use Rattle.spec_rules.specs.SpecRules.{rule_fault}
-use Rattle.spec_tables.specs.declared.fault.TablesFault.{TablesFault}
-use Rattle.spec_tables.specs.declared.fault.TablesFault.TheVariants as tables
+use Rattle.spec_tables.specs.Faults as tables
 use Rattle.spec_tables.specs.Faults.{tables_fault}
 use Rattle.gta_types.specs.declared.fault.CheckFault.{CheckFault}
 use Rattle.gta_types.specs.declared.fault.CheckFault.TheVariants as faults
@@ -48,12 +47,6 @@ fault_of_rule (rules.SecondPart line part) = faults.SecondPart line (part_word p
 fault_of_rule (rules.LabelsAssign line assign) = faults.LabelsAssign line assign
 fault_of_rule (rules.Limit line limit) = faults.Limit line (limit_word limit)
 
-abbrev pub fault_of_table : TablesFault → CheckFault
-fault_of_table (tables.UnitFails table element left) = faults.UnitFails table element left
-fault_of_table (tables.NotAssociative table a b c) = faults.NotAssociative table a b c
-fault_of_table (tables.NotSquare table element) = faults.NotSquare table element
-fault_of_table tables.Memory = faults.Memory
-
 -- the first fault of the names: an unknown name, or else a name declared twice
 unfoldable pub name_fault : List PartTree → Option CheckFault
 name_fault parts =
@@ -64,13 +57,10 @@ name_fault parts =
 unfoldable pub check_fault : SpecTree → Option CheckFault
 check_fault spec =
     option_or (name_fault spec.parts)
-    (option_or (option_map fault_of_rule (rule_fault spec)) (option_map fault_of_table (tables_fault spec.parts)))
+    (option_or (option_map fault_of_rule (rule_fault spec)) (option_map faults.Table (tables_fault spec.parts)))
 
--- an end that carries this fault; want of memory is free
-abbrev pub IsEndBy : Option CheckFault → CheckFault → Type 0
-IsEndBy fault faults.Memory = Unit {0}
-IsEndBy fault end = fault ≡ Some end
-
--- an end without a checked specification carries its first fault
-abbrev pub IsFaultOf : SpecTree → CheckFault → Type 0
-IsFaultOf spec = IsEndBy (check_fault spec)
+-- the fault that an end tells of; want of memory is none
+abbrev pub fault_in : CheckFault → Option CheckFault
+fault_in faults.Memory = None
+fault_in (faults.Table end) = option_map faults.Table (tables.fault_in end)
+fault_in fault = Some fault

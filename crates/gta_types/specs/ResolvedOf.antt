@@ -1,13 +1,15 @@
 -- The one specification that another is resolved to.
-use Rattle.std.specs.Prelude.{◌≡◌, List, [], ◌∷◌, None, map}
+use Rattle.std.specs.Prelude.{◌≡◌, List, [], ◌∷◌, None, map, Result, Ok}
 use Rattle.std.specs.List.{flat_map}
 use Rattle.std.proofs.Common.{refl}
+use Rattle.outcome_kit.specs.Outcome.{unless}
 use Rattle.shape_gen.specs.declared.shape.Shape.TheVariants.{Sublists}
 use Rattle.gta_checked.specs.declared.resolved.Goal.TheVariants.{Count}
 use Rattle.gta_checked.specs.Plain.{PlainChecked}
 use Rattle.gta_spec.specs.Parts.{SpecTree}
 use Rattle.gta_spec.specs.WellFormed.{IsWellFormed}
 use Rattle.spec_tables.specs.Tables.{tables_in, named_table}
+use Rattle.gta_types.specs.declared.fault.CheckFault.{CheckFault}
 use Rattle.gta_types.specs.Faults.{check_fault}
 use Rattle.gta_types.specs.Resolved.{IsResolved, column_items, environment, goals_of, measures_of}
 use Rattle.gta_types.specs.Resolved.{shapes_of, tests_of}
@@ -32,7 +34,11 @@ resolved_of spec =
       goal = first_or Count (flat_map (λ part. goals_of env part.kind) spec.parts);
     }
 
--- it is the resolved specification of each well-formed one without a fault
+-- the specification with its names resolved, unless it has a fault
+abbrev pub checked_outcome : SpecTree → Result PlainChecked CheckFault
+checked_outcome spec = unless (check_fault spec) (Ok (resolved_of spec))
+
+-- `resolved_of` gives the resolved specification of each well-formed one without a fault
 abbrev pub ResolvesEach : Type 0
 ResolvesEach = (spec : SpecTree) → IsWellFormed spec → check_fault spec ≡ None
     → IsResolved spec (resolved_of spec)

@@ -1,11 +1,12 @@
 //! The check of a specification: its faults in their order, and its names resolved to numbers.
 
-ghost use Rattle.std.specs.Prelude.{◌≡◌, None, IfOk, IfErr, OnOk};
+ghost use Rattle.std.specs.Prelude.{◌≡◌, IfOk};
+ghost use Rattle.outcome_kit.specs.Outcome.{Tells};
 ghost use Rattle.gta_spec.specs.Parts.{spec_tree};
 ghost use Rattle.gta_spec.specs.WellFormed.{IsWellFormed};
 ghost use Rattle.gta_types.specs.Resolved.{IsResolved};
-ghost use Rattle.gta_types.specs.Faults.{check_fault, IsFaultOf, part_word, limit_word, fault_of_rule};
-ghost use Rattle.gta_types.specs.Faults.{fault_of_table};
+ghost use Rattle.gta_types.specs.ResolvedOf.{checked_outcome};
+ghost use Rattle.gta_types.specs.Faults.{fault_in, fault_of_rule, limit_word, part_word};
 
 use crate::fault::CheckFault;
 use crate::joining::resolve;
@@ -14,7 +15,7 @@ use gta_checked::Checked;
 use gta_spec::Spec;
 use gta_text::Name;
 use spec_rules::{Limit, RuleFault, SinglePart, rule_fault};
-use spec_tables::{TablesFault, checked_tables};
+use spec_tables::checked_tables;
 use std::alloc::{AllocError, Global};
 
 /// The specification with its names resolved to numbers.
@@ -22,20 +23,15 @@ use std::alloc::{AllocError, Global};
 /// second parts, labels and assignments, limits, tables. Takes memory for an index of the declared names.
 pub fn check(alloc: Global, spec: &Spec) -> Result<Checked, CheckFault>
     requires well_formed { IsWellFormed (spec_tree spec.now) }
+    ensures tells { Tells fault_in (λ checked. checked) (checked_outcome (spec_tree spec.now)) result }
     ensures resolved { IfOk result (IsResolved (spec_tree spec.now)) }
-    ensures accepted { OnOk result (check_fault (spec_tree spec.now) ≡ None) }
-    ensures refused { IfErr result (IsFaultOf (spec_tree spec.now)) }
 {
-    if let Err(fault) = check_names(alloc, spec.parts.as_slice()) {
-        return Err(fault);
-    }
+    check_names(alloc, spec.parts.as_slice())?;
     if let Some(fault) = rule_fault(spec) {
         return Err(fault_of_rule(alloc, fault)?);
     }
-    match checked_tables(alloc, spec.parts.as_slice()) {
-        Ok(tables) => Ok(resolve(alloc, spec, tables)?),
-        Err(fault) => Err(fault_of_table(fault)),
-    }
+    let tables = checked_tables(alloc, spec.parts.as_slice())?;
+    Ok(resolve(alloc, spec, tables)?)
 }
 
 fn part_word(part: SinglePart) -> &'static [u8]
@@ -90,27 +86,5 @@ fn fault_of_rule(alloc: Global, fault: RuleFault) -> Result<CheckFault, AllocErr
             let limit = Name::of(alloc, limit_word(limit))?;
             Ok(CheckFault::Limit { line, limit })
         }
-    }
-}
-
-/// The fault of the tables, as one of the specification.
-fn fault_of_table(fault: TablesFault) -> CheckFault
-    ensures { result ≡ fault_of_table fault }
-{
-    match fault {
-        TablesFault::UnitFails {
-            table,
-            element,
-            left,
-        } => CheckFault::UnitFails {
-            table,
-            element,
-            left,
-        },
-        TablesFault::NotAssociative { table, a, b, c } => {
-            CheckFault::NotAssociative { table, a, b, c }
-        }
-        TablesFault::NotSquare { table, element } => CheckFault::NotSquare { table, element },
-        TablesFault::Memory => CheckFault::Memory,
     }
 }

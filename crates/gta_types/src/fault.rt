@@ -1,62 +1,29 @@
 //! Why a specification is not accepted.
 
 ghost use Rattle.std.specs.Prelude.{◌≡◌};
-ghost use Rattle.gta_types.specs.declared.fault.CheckFault.TheVariants.{Memory};
+ghost use Rattle.gta_types.specs.declared.fault.CheckFault.TheVariants.{Memory, Table};
 
 use gta_text::Name;
+use spec_tables::TablesFault;
 use std::alloc::AllocError;
 
 /// The first fault of a specification. Lines are numbered from 1.
 #[derive(Debug, Drop)]
 pub enum CheckFault {
     /// This line uses a name that isn't declared for that use.
-    Unknown {
-        line: u32,
-        name: Name,
-    },
+    Unknown { line: u32, name: Name },
     /// This line declares a name that is declared before it.
-    Twice {
-        line: u32,
-        name: Name,
-    },
+    Twice { line: u32, name: Name },
     /// There is no line `columns`, `generate` or `aggregate`.
-    Missing {
-        part: Name,
-    },
+    Missing { part: Name },
     /// This line is the second `columns`, `labels`, `generate` or `aggregate`.
-    SecondPart {
-        line: u32,
-        part: Name,
-    },
+    SecondPart { line: u32, part: Name },
     /// `generate assign` without `labels`, on its line, or `labels` without `generate assign`, on its line.
-    LabelsAssign {
-        line: u32,
-        assign: bool,
-    },
+    LabelsAssign { line: u32, assign: bool },
     /// This line passes this limit.
-    Limit {
-        line: u32,
-        limit: Name,
-    },
-    /// The unit of this table changes the element, as the left factor or else as the right.
-    UnitFails {
-        table: Name,
-        element: Name,
-        left: bool,
-    },
-    /// In this table (a b) c isn't a (b c).
-    NotAssociative {
-        table: Name,
-        a: Name,
-        b: Name,
-        c: Name,
-    },
-    /// The element of this table has no line `times`, more than one, or one with another number of products
-    /// than there are elements.
-    NotSquare {
-        table: Name,
-        element: Name,
-    },
+    Limit { line: u32, limit: Name },
+    /// The products of a table are those of no monoid.
+    Table(TablesFault),
     /// Memory was wanting.
     Memory,
 }
@@ -66,5 +33,13 @@ impl From<AllocError> for CheckFault {
 
     fn from(_: AllocError) -> CheckFault {
         CheckFault::Memory
+    }
+}
+
+impl From<TablesFault> for CheckFault {
+    ghost from_gives = { λ fault end. end ≡ Table fault };
+
+    fn from(fault: TablesFault) -> CheckFault {
+        CheckFault::Table(fault)
     }
 }

@@ -1,9 +1,10 @@
 //! The faults of the names: unknown ones, and those declared twice.
 
-ghost use Rattle.std.specs.Prelude.{◌≡◌, map, IfErr, OnOk, None};
+ghost use Rattle.std.specs.Prelude.{map};
+ghost use Rattle.outcome_kit.specs.Outcome.{Passes};
 ghost use Rattle.gta_spec.specs.Parts.{part_tree};
 ghost use Rattle.gta_spec.specs.WellFormed.{FitParts};
-ghost use Rattle.gta_types.specs.Faults.{name_fault, IsEndBy};
+ghost use Rattle.gta_types.specs.Faults.{fault_in, name_fault};
 
 use crate::declaring::declared_in;
 use crate::fault::CheckFault;
@@ -16,8 +17,7 @@ use std::alloc::Global;
 /// Looks for the first fault of the names: all uses before the names declared twice.
 pub(crate) fn check_names(alloc: Global, parts: &[Part]) -> Result<(), CheckFault>
     requires ascend { FitParts 0 (map part_tree parts.now) }
-    ensures kept { OnOk result (name_fault (map part_tree parts.now) ≡ None) }
-    ensures refused { IfErr result (IsEndBy (name_fault (map part_tree parts.now))) }
+    ensures tells { Passes fault_in (name_fault (map part_tree parts.now)) result }
 {
     let all = declared_in(alloc, parts)?;
     let index = index_of(alloc, all.as_slice())?;

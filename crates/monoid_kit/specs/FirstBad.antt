@@ -1,8 +1,9 @@
 -- The first law of a monoid that a table breaks.
-use Rattle.std.specs.Prelude.{◌≡◌, ℕ, ◌==◌, not, Bool, true, false}
-use Rattle.std.specs.Prelude.{List, [], ◌∷◌, Option, Some, option_map}
+use Rattle.std.specs.Prelude.{ℕ, ◌==◌, not, Bool, true, false}
+use Rattle.std.specs.Prelude.{List, [], ◌∷◌, Option, Some, None, option_map, Result, Ok}
 use Rattle.std.specs.Option.{option_or}
 use Rattle.std.specs.List.{find, range_with_len}
+use Rattle.outcome_kit.specs.Outcome.{unless}
 use Rattle.monoid_kit.specs.declared.checks.TableFault.{TableFault}
 use Rattle.monoid_kit.specs.declared.checks.TableFault.TheVariants.{UnitFails, NotAssociative, Memory}
 use Rattle.monoid_kit.specs.Items.{pairs}
@@ -37,7 +38,11 @@ first_bad t =
     option_or (option_map (λ p. UnitFails p.0 p.1) (first_unit_failure t))
     (option_map (λ p. NotAssociative p.0 p.1.0 p.1.1) (first_triple t))
 
--- an end that carries the first failure; want of memory is free
-abbrev pub IsEndOf : Option TableFault → TableFault → Type 0
-IsEndOf first Memory = Unit {0}
-IsEndOf first fault = first ≡ Some fault
+-- the table, unless it breaks a law
+abbrev pub lawful_outcome : PlainTable → Result PlainTable TableFault
+lawful_outcome t = unless (first_bad t) (Ok t)
+
+-- the law that an end tells of; want of memory is none
+abbrev pub fault_in : TableFault → Option TableFault
+fault_in Memory = None
+fault_in fault = Some fault

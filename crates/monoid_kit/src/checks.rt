@@ -2,10 +2,11 @@
 //! specs/FirstBad.antt.
 
 ghost use Rattle.std.specs.Prelude.{◌≡◌, ◌==◌, ℕ, ◌<◌, ◌↔◌, not, None, length, slice_index_or, option_map};
-ghost use Rattle.std.specs.Prelude.{IfOk, IfErr, OnOk};
+ghost use Rattle.std.specs.Prelude.{IfOk};
 ghost use Rattle.std.specs.List.{find};
+ghost use Rattle.outcome_kit.specs.Outcome.{Tells};
 ghost use Rattle.monoid_kit.specs.FirstBad.{elements, unit_fails, is_not_associative, first_bad};
-ghost use Rattle.monoid_kit.specs.FirstBad.{first_unit_failure, first_triple, IsEndOf};
+ghost use Rattle.monoid_kit.specs.FirstBad.{first_unit_failure, first_triple, fault_in, lawful_outcome};
 ghost use Rattle.monoid_kit.specs.Items.{pairs};
 ghost use Rattle.monoid_kit.specs.Monoid.{IsMonoid};
 ghost use Rattle.monoid_kit.specs.Table.{IsTable, table_mul};
@@ -29,9 +30,8 @@ pub enum TableFault {
 /// It takes memory for a copy of the cells.
 pub fn check_table(alloc: Global, table: &RawTable) -> Result<TableMonoid, TableFault>
     requires table { IsTable (plain_raw table.now) }
-    ensures accepted { OnOk result (first_bad (plain_raw table.now) ≡ None) }
+    ensures tells { Tells fault_in plain_table (lawful_outcome (plain_raw table.now)) result }
     ensures same { IfOk result (λ monoid. plain_table monoid ≡ plain_raw table.now) }
-    ensures refused { IfErr result (IsEndOf (first_bad (plain_raw table.now))) }
     ensures exact { (first_bad (plain_raw table.now) ≡ None)
         ↔ IsMonoid table.now.size table.now.unit (table_mul (plain_raw table.now)) }
 {

@@ -1,17 +1,19 @@
 -- Which fault of the tables is told.
-use Rattle.std.proofs.Common.{◌≡◌, ℕ, List, [], ◌∷◌, ◌++◌, length, Option, Some, None, Bool, true, false, refl, sym, ap, ◌∙◌}
+use Rattle.std.proofs.Common.{◌≡◌, ℕ, List, [], ◌∷◌, ◌++◌, length, Option, Some, None, Result, Bool, true, false}
+use Rattle.std.proofs.Common.{refl, sym, ap, ◌∙◌}
 use Rattle.std.specs.Option.{option_or}
 use Rattle.std.specs.List.{filter_map, find}
 use Rattle.std.proofs.lemmas.List.Folds.{find-append}
 use Rattle.std.proofs.lemmas.List.{append-nil}
 use Rattle.std.proofs.lemmas.List.Elements.{filter_map-append}
 use Rattle.std.proofs.lemmas.Option.{none-some, same_Some}
+use Rattle.outcome_kit.specs.Outcome.{unless, Carries}
 use Rattle.monoid_kit.specs.Table.{PlainTable}
 use Rattle.gta_spec.specs.Parts.{TableTree}
 use Rattle.spec_tables.specs.declared.fault.TablesFault.{TablesFault}
 use Rattle.spec_tables.specs.declared.fault.TablesFault.TheVariants.{UnitFails, NotAssociative, NotSquare, Memory}
 use Rattle.spec_tables.specs.Tables.{number_of}
-use Rattle.spec_tables.specs.Faults.{first_told, is_of_unit, is_of_triple, IsEndBy}
+use Rattle.spec_tables.specs.Faults.{fault_in, first_told, is_of_unit, is_of_triple}
 use Rattle.spec_tables.specs.Checked.{earlier, rank, square_of}
 
 pub square_same : (table : TableTree) (cells : List ℕ) (size unit : ℕ) → size ≡ length table.elements
@@ -19,12 +21,13 @@ pub square_same : (table : TableTree) (cells : List ℕ) (size unit : ℕ) → s
     → (let made : PlainTable = record { size = size; unit = unit; cells = cells } in made ≡ square_of table cells)
 square_same table cells size unit is_size is_unit = rw (is_size, is_unit) refl
 
--- an end that carries the fault that is told
-pub is_end : (told : Option TablesFault) (fault : TablesFault) → told ≡ Some fault → IsEndBy told fault
-is_end told (UnitFails table element left) is = is
-is_end told (NotAssociative table a b c) is = is
-is_end told (NotSquare table element) is = is
-is_end told Memory is = tt
+-- the fault that is told ends all
+pub told-ends : {T : Type 0} (told : Option TablesFault) (next : Result T TablesFault) (fault : TablesFault)
+    → told ≡ Some fault → Carries (unless told next) (fault_in fault)
+told-ends told next (UnitFails table element left) is = ap (λ (o : Option TablesFault). unless o next) is
+told-ends told next (NotAssociative table a b c) is = ap (λ (o : Option TablesFault). unless o next) is
+told-ends told next (NotSquare table element) is = ap (λ (o : Option TablesFault). unless o next) is
+told-ends told next Memory is = tt
 
 by_test : {A : Type 0} (b : Bool) → (b ≡ true → A) → (b ≡ false → A) → A
 by_test true t f = t refl

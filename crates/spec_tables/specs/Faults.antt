@@ -1,15 +1,17 @@
 -- The faults of the tables of a specification.
-use Rattle.std.specs.Prelude.{◌≡◌, ℕ, Bool, true, false, not, List, [], slice_index_or, Option, Some, None}
-use Rattle.std.specs.Prelude.{is_some, option_map}
+use Rattle.std.specs.Prelude.{ℕ, Bool, true, false, not, List, [], map, slice_index_or, Option, Some, None}
+use Rattle.std.specs.Prelude.{is_some, option_map, Result, Ok}
 use Rattle.std.specs.Option.{option_or}
 use Rattle.std.specs.List.{filter_map, find}
+use Rattle.outcome_kit.specs.Outcome.{unless}
 use Rattle.monoid_kit.specs.declared.checks.TableFault.{TableFault}
 use Rattle.monoid_kit.specs.declared.checks.TableFault.TheVariants as laws
 use Rattle.monoid_kit.specs.FirstBad.{first_bad}
 use Rattle.gta_spec.specs.Parts.{TableTree, PartTree}
+use Rattle.gta_checked.specs.Plain.{NamedTable}
 use Rattle.spec_tables.specs.declared.fault.TablesFault.{TablesFault}
 use Rattle.spec_tables.specs.declared.fault.TablesFault.TheVariants.{UnitFails, NotAssociative, NotSquare, Memory}
-use Rattle.spec_tables.specs.Tables.{tables_in, row_of, products_by_number}
+use Rattle.spec_tables.specs.Tables.{named_table, tables_in, row_of, products_by_number}
 
 -- the first element that has no line `times`, more than one, or one with another number of products than
 -- there are elements
@@ -53,7 +55,11 @@ first_told faults =
 unfoldable pub tables_fault : List PartTree → Option TablesFault
 tables_fault parts = first_told (filter_map (fault_of parts) (tables_in parts))
 
--- an end that carries this fault; want of memory is free
-abbrev pub IsEndBy : Option TablesFault → TablesFault → Type 0
-IsEndBy fault Memory = Unit {0}
-IsEndBy fault end = fault ≡ Some end
+-- the tables by their numbers, unless there is a fault
+abbrev pub tables_outcome : List PartTree → Result (List NamedTable) TablesFault
+tables_outcome parts = unless (tables_fault parts) (Ok (map (named_table parts) (tables_in parts)))
+
+-- the fault that an end tells of; want of memory is none
+abbrev pub fault_in : TablesFault → Option TablesFault
+fault_in Memory = None
+fault_in fault = Some fault

@@ -1,12 +1,13 @@
 //! Tables that are monoids, or the fault that is told.
 
-ghost use Rattle.std.specs.Prelude.{◌≡◌, map, length, None, IfOk, IfErr, OnOk};
+ghost use Rattle.std.specs.Prelude.{◌≡◌, map, IfOk};
+ghost use Rattle.outcome_kit.specs.Outcome.{Tells};
 ghost use Rattle.monoid_kit.specs.Table.{IsTable};
 ghost use Rattle.gta_spec.specs.Parts.{part_tree, table_tree};
 ghost use Rattle.gta_spec.specs.WellFormed.{EachFits};
 ghost use Rattle.gta_checked.specs.Plain.{plain_named};
-ghost use Rattle.spec_tables.specs.Tables.{named_table, tables_in};
-ghost use Rattle.spec_tables.specs.Faults.{element_name, tables_fault, IsEndBy};
+ghost use Rattle.spec_tables.specs.Tables.{tables_in};
+ghost use Rattle.spec_tables.specs.Faults.{element_name, fault_in, tables_outcome};
 ghost use Rattle.spec_tables.specs.Checked.{earlier, rank, square_of, IsChecked, IsLawful};
 ghost use Rattle.spec_tables.specs.Ready.{IsReadyTable};
 
@@ -23,10 +24,8 @@ use std::alloc::{AllocError, Global};
 /// or else the first triple that isn't associative, or else the first table that isn't square.
 pub fn checked_tables(alloc: Global, parts: &[Part]) -> Result<Vec<Table>, TablesFault>
     requires ready { EachFits IsReadyTable (tables_in (map part_tree parts.now)) }
-    ensures tables { IfOk result (λ tables. map plain_named tables.items
-        ≡ map (named_table (map part_tree parts.now)) (tables_in (map part_tree parts.now))) }
-    ensures accepted { OnOk result (tables_fault (map part_tree parts.now) ≡ None) }
-    ensures refused { IfErr result (IsEndBy (tables_fault (map part_tree parts.now))) }
+    ensures tells { let outcome = tables_outcome (map part_tree parts.now) in
+        Tells fault_in (λ tables. map plain_named tables.items) outcome result }
 {
     let mut tables = Vec::new(alloc);
     let mut first = None;

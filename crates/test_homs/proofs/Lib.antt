@@ -11,3 +11,4 @@ pub mod Digits
 pub mod Keys
 pub mod Orders
 pub mod Preparations
+pub mod Faults

@@ -10,4 +10,4 @@ pub mod Prepared
 pub mod Joined
 pub mod Order
 pub mod Negatives
-pub mod Ends
+pub mod Faults

@@ -1,7 +1,8 @@
 //! The tests of a job as letters for its rows and labels, and the keys that are accepted.
 
-ghost use Rattle.std.specs.Prelude.{◌≡◌, ◌≤◌, ◌<◌, ◌+◌, ◌*◌, length, None, slice_index_or};
-ghost use Rattle.std.specs.Prelude.{map, IfOk, IfErr, OnOk};
+ghost use Rattle.std.specs.Prelude.{◌≡◌, ◌<◌, ◌+◌, ◌*◌, length, slice_index_or};
+ghost use Rattle.std.specs.Prelude.{map, IfOk};
+ghost use Rattle.outcome_kit.specs.Outcome.{Passes};
 ghost use Rattle.gta_checked.specs.PlainRows.{plain_rows};
 ghost use Rattle.gta_meaning.specs.InRange.{HasColumnsOf};
 ghost use Rattle.monoid_product.specs.ProductOf.{plain_parts};
@@ -9,11 +10,8 @@ ghost use Rattle.test_homs.specs.Homs as homs;
 ghost use Rattle.test_homs.specs.Homs.{ArePrepared};
 ghost use Rattle.test_homs.specs.Joined.{AreJoinable, components, joined};
 ghost use Rattle.test_homs.specs.Prepared.{plain_prepared};
-ghost use Rattle.test_homs.specs.Negatives.{first_negative};
-ghost use Rattle.test_homs.specs.Sizes.{key_count};
 ghost use Rattle.test_homs.specs.declared.tests_of.ValueFault.TheVariants.{Memory};
-ghost use Rattle.test_homs.specs.Ends.{IsEndOf};
-ghost use Rattle.monoid_product.specs.declared.product.TheConstants.{KEY_LIMIT};
+ghost use Rattle.test_homs.specs.Faults.{fault_in, value_fault};
 
 use crate::joined::{accepted_keys, components, keys};
 use crate::kinds::prepared_tests;
@@ -128,10 +126,8 @@ impl Tests {
 /// is none, where the tests have more than 8,192 keys together.
 pub fn prepare_tests(alloc: Global, checked: &Checked, rows: &Rows) -> Result<Tests, ValueFault>
     requires columns { HasColumnsOf checked.now (plain_rows rows.now) }
-    ensures natural { OnOk result (first_negative checked.now (plain_rows rows.now) ≡ None) }
-    ensures small { OnOk result (key_count checked.now ≤ KEY_LIMIT) }
+    ensures tells { Passes fault_in (value_fault checked.now (plain_rows rows.now)) result }
     ensures prepared { IfOk result (ArePrepared checked.now (plain_rows rows.now)) }
-    ensures refused { IfErr result (IsEndOf checked.now (plain_rows rows.now)) }
 {
     if let Some(negative) = first_negative(checked, rows) {
         return Err(ValueFault::Negative {

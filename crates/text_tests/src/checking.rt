@@ -12,6 +12,7 @@ use gta_spec::{
 use gta_text::Name;
 use gta_types::{CheckFault, check};
 use shape_gen::Shape;
+use spec_tables::TablesFault;
 use std::alloc::{AllocError, Global};
 use std::fmt::Write;
 use std::test::Fail;
@@ -243,9 +244,9 @@ fn write_tests(out: &mut String, checked: &Checked) -> Result<(), Fail> {
     Ok(())
 }
 
-fn write_fault(out: &mut String, fault: &CheckFault) -> Result<(), Fail> {
+fn write_tables_fault(out: &mut String, fault: &TablesFault) -> Result<(), Fail> {
     match fault {
-        CheckFault::UnitFails {
+        TablesFault::UnitFails {
             table,
             element,
             left,
@@ -254,21 +255,28 @@ fn write_fault(out: &mut String, fault: &CheckFault) -> Result<(), Fail> {
             write_name(out, table)?;
             write_name(out, element)?;
         }
-        CheckFault::NotAssociative { table, a, b, c } => {
+        TablesFault::NotAssociative { table, a, b, c } => {
             out.push_str("triple")?;
             write_name(out, table)?;
             write_name(out, a)?;
             write_name(out, b)?;
             write_name(out, c)?;
         }
-        CheckFault::NotSquare { table, element } => {
+        TablesFault::NotSquare { table, element } => {
             out.push_str("square")?;
             write_name(out, table)?;
             write_name(out, element)?;
         }
-        other => write!(out, "{other:?}")?,
+        TablesFault::Memory => out.push_str("memory")?,
     }
     Ok(())
+}
+
+fn write_fault(out: &mut String, fault: &CheckFault) -> Result<(), Fail> {
+    match fault {
+        CheckFault::Table(fault) => write_tables_fault(out, fault),
+        other => Ok(write!(out, "{other:?}")?),
+    }
 }
 
 /// The fold of a specification of these tables in letters, or its fault.

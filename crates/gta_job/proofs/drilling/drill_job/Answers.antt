@@ -4,8 +4,9 @@ use Rattle.drill_texts.specs.Drills.{heading}
 use Rattle.drill_texts.specs.declared.drill.Drill.TheVariants.{Best, Greatest, Segments}
 use Rattle.gta_words.specs.declared.words.Command.TheVariants.{Drill}
 use Rattle.report_text.specs.declared.refusal.Refusal.{Refusal}
+use Rattle.outcome_kit.specs.Outcome.{and_then}
 use Rattle.gta_job.specs.Ends.{Ends}
-use Rattle.gta_job.specs.Outcome.{and_then, outcome, part_outcome}
+use Rattle.gta_job.specs.Outcome.{outcome, part_outcome}
 use Rattle.gta_job.proofs.Ordered.{then-ends, then-later}
 use Rattle.gta_job.proofs.drilling.drill_job.Goals as goal
 

@@ -4,8 +4,9 @@ use Rattle.gta_canonical.specs.Canonical.{canonical}
 use Rattle.gta_syntax.specs.Refusals.{ReadTree}
 use Rattle.gta_words.specs.declared.words.Command.TheVariants.{Show}
 use Rattle.report_text.specs.declared.refusal.Refusal.{Refusal}
+use Rattle.outcome_kit.specs.Outcome.{and_then}
 use Rattle.gta_job.specs.Ends.{Ends}
-use Rattle.gta_job.specs.Outcome.{outcome, and_then, specification}
+use Rattle.gta_job.specs.Outcome.{outcome, specification}
 use Rattle.gta_job.proofs.Ordered.{then-ends}
 use Rattle.gta_job.proofs.job.show_job.Goals as goal
 

@@ -25,8 +25,8 @@ loop-row-init c = record {
   };
 }
 
-pub returns-then-len-width-clause-refused : goal.returns-then-len-width-clause-refused
-returns-then-len-width-clause-refused c =
+pub returns-then-len-width-clause-tells : goal.returns-then-len-width-clause-tells
+returns-then-len-width-clause-tells c =
     let before = c.loop-row.invariant in
     let fields = trimmed_fields c.next_record.new.row in
     let same : length fields ≡ length (fields_of c.next_record.new.row) = length-map

@@ -11,16 +11,18 @@ pub loop-item-init : goal.loop-item-init
 unfolding twice
 loop-item-init c = refl
 
-pub returns-then-times_in-gt1-clause-refused : goal.returns-then-times_in-gt1-clause-refused
+pub returns-then-times_in-gt1 : goal.returns-then-times_in-gt1
 unfolding twice
-returns-then-times_in-gt1-clause-refused c =
+returns-then-times_in-gt1 c =
     let more : nat_lt 1 c.times_in.result ≡ true = grind (arith, nat_tests) in
-    rw (c.in_ok-column.ensures, c.bytes.ensures)
-    (first_here (λ (item : ColumnItem). nat_lt 1 (times_in (trimmed_fields c.args.header.now) (header_text item)))
-    (λ (item : ColumnItem). ColumnTwice item.name)
-    c.args.items.now c.loop-item.item-index
-    c.item-item.result c.loop-item-test.true c.item-item.is c.loop-item.invariant
-    (rw (c.times_in.ensures, c.header_text.ensures) at more))
+    record {
+      tells = rw (c.in_ok-column.ensures, c.bytes.ensures)
+          (first_here (λ (item : ColumnItem). nat_lt 1 (times_in (trimmed_fields c.args.header.now) (header_text item)))
+          (λ (item : ColumnItem). ColumnTwice item.name)
+          c.args.items.now c.loop-item.item-index
+          c.item-item.result c.loop-item-test.true c.item-item.is c.loop-item.invariant
+          (rw (c.times_in.ensures, c.header_text.ensures) at more));
+    }
 
 pub loop-item-preserved : goal.loop-item-preserved
 unfolding twice

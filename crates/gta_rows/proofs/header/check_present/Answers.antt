@@ -11,16 +11,18 @@ pub loop-item-init : goal.loop-item-init
 unfolding missing
 loop-item-init c = refl
 
-pub returns-then-times_in-eq0-clause-refused : goal.returns-then-times_in-eq0-clause-refused
+pub returns-then-times_in-eq0 : goal.returns-then-times_in-eq0
 unfolding missing
-returns-then-times_in-eq0-clause-refused c =
+returns-then-times_in-eq0 c =
     let none : (c.times_in.result == 0) ≡ true = grind (arith, nat_tests) in
-    rw (c.in_ok-column.ensures, c.bytes.ensures)
-    (first_here (λ (item : ColumnItem). times_in (trimmed_fields c.args.header.now) (header_text item) == 0)
-    (λ (item : ColumnItem). Missing item.name)
-    c.args.items.now c.loop-item.item-index
-    c.item-item.result c.loop-item-test.true c.item-item.is c.loop-item.invariant
-    (rw (c.times_in.ensures, c.header_text.ensures) at none))
+    record {
+      tells = rw (c.in_ok-column.ensures, c.bytes.ensures)
+          (first_here (λ (item : ColumnItem). times_in (trimmed_fields c.args.header.now) (header_text item) == 0)
+          (λ (item : ColumnItem). Missing item.name)
+          c.args.items.now c.loop-item.item-index
+          c.item-item.result c.loop-item-test.true c.item-item.is c.loop-item.invariant
+          (rw (c.times_in.ensures, c.header_text.ensures) at none));
+    }
 
 pub loop-item-preserved : goal.loop-item-preserved
 unfolding missing

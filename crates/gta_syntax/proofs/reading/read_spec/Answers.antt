@@ -8,5 +8,5 @@ returns c = record {
   only = only c.args.bytes.now c.answer_of.result c.answer_of.ensures;
   refused = refused c.args.bytes.now c.answer_of.result c.answer_of.ensures;
   refuses = refuses c.args.bytes.now c.answer_of.result c.answer_of.ensures;
-  exact = c.answer_of.ensures;
+  tells = c.answer_of.ensures;
 }

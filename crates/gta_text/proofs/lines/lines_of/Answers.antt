@@ -3,6 +3,6 @@ use Rattle.gta_text.proofs.lines.lines_of.Goals as goal
 
 pub returns : goal.returns
 returns c = record {
-  exact = c.read_lines.ensures;
+  tells = c.read_lines.ensures;
   held = result_held c.args.bytes.now c.read_lines.result c.read_lines.ensures;
 }

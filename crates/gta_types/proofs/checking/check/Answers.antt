@@ -1,41 +1,66 @@
-use Rattle.std.proofs.Common.{sym, ◌∙◌, subst}
+use Rattle.std.proofs.Common.{List, Ok, map, rules, sym, ◌∙◌, subst}
+use Rattle.outcome_kit.specs.Outcome.{Carries}
+use Rattle.outcome_kit.proofs.Outcomes.{unless-Ok}
+use Rattle.gta_checked.specs.Plain.{plain_named}
 use Rattle.gta_spec.specs.Parts.{spec_tree}
-use Rattle.gta_types.specs.Faults.{IsFaultOf}
+use Rattle.spec_tables.specs.Tables.{named_table, tables_in}
+use Rattle.spec_tables.specs.Faults as tables
+use Rattle.spec_tables.specs.Faults.{tables_fault}
+use Rattle.gta_types.specs.declared.fault.CheckFault.{CheckFault}
+use Rattle.gta_types.specs.declared.fault.CheckFault.TheVariants.{Table}
+use Rattle.gta_types.specs.Faults.{fault_in}
+use Rattle.gta_types.specs.ResolvedOf.{checked_outcome}
 use Rattle.gta_types.proofs.Accepted.{tables_ready}
 use Rattle.gta_types.proofs.Whole.{is_sound}
 use Rattle.gta_types.proofs.Ends.{end_of_names, end_of_rule, end_of_tables, no_end}
 use Rattle.gta_types.proofs.checking.check.Goals as goal
 
-pub returns-in-Err-clause-refused : goal.returns-in-Err-clause-refused
-returns-in-Err-clause-refused c =
-    let names = rw c.as_slice.ensures.value at c.in-Err.ensures.refused in
-    end_of_names (spec_tree c.args.spec.now) c.in-Err.fault names
-
-pub returns-in-Some-clause-refused : goal.returns-in-Some-clause-refused
-returns-in-Some-clause-refused c =
+pub returns-in_err-check_names-clause-tells : goal.returns-in_err-check_names-clause-tells
+returns-in_err-check_names-clause-tells c =
     let spec = spec_tree c.args.spec.now in
-    let names = rw c.as_slice.ensures.value at c.in_default.ensures.kept in
-    subst (IsFaultOf spec) (sym c.in_ok-fault_of_rule.ensures)
-    (end_of_rule spec c.in-Some.fault names (sym c.rule_fault.ensures ∙ c.in-Some.is))
+    let fault = c.in_err-check_names.field-0.0 in
+    let names = rw c.as_slice.ensures.value at c.in_err-check_names.ensures.tells in
+    let ends : Carries (checked_outcome spec) (fault_in fault) = end_of_names spec fault names in
+    search rules
+
+pub returns-in-Some-clause-tells : goal.returns-in-Some-clause-tells
+returns-in-Some-clause-tells c =
+    let spec = spec_tree c.args.spec.now in
+    let names = rw c.as_slice.ensures.value at c.in_ok-check_names.ensures.tells in
+    subst (λ (fault : CheckFault). Carries (checked_outcome spec) (fault_in fault)) (sym c.in_ok-fault_of_rule.ensures)
+    (end_of_rule spec names c.in-Some.fault (sym c.rule_fault.ensures ∙ c.in-Some.is))
 
 pub checked_tables-requires : goal.checked_tables-requires
 checked_tables-requires c =
     let spec = spec_tree c.args.spec.now in
-    let names = rw c.as_slice.ensures.value at c.in_default.ensures.kept in
-    let sound = is_sound spec c.requires.well_formed names (sym c.rule_fault.ensures ∙ c.in_default-rule_fault.is) in
+    let names = rw c.as_slice.ensures.value at c.in_ok-check_names.ensures.tells in
+    let sound = is_sound spec c.requires.well_formed names (sym c.rule_fault.ensures ∙ c.in_default.is) in
     record { ready = rw c.as_slice-2.ensures.value (tables_ready spec.parts spec.parts sound.facts) }
 
-pub returns-in_ok-resolve-in-Ok-clause-accepted : goal.returns-in_ok-resolve-in-Ok-clause-accepted
-returns-in_ok-resolve-in-Ok-clause-accepted c =
-    let names = rw c.as_slice.ensures.value at c.in_default.ensures.kept in
-    let tables = rw c.as_slice-2.ensures.value at c.in-Ok.ensures.accepted in
-    no_end (spec_tree c.args.spec.now) names (sym c.rule_fault.ensures ∙ c.in_default-rule_fault.is) tables
+pub resolve-requires-clause-tables : goal.resolve-requires-clause-tables
+resolve-requires-clause-tables c =
+    let parts = (spec_tree c.args.spec.now).parts in
+    let told = rw c.as_slice-2.ensures.value at c.in_ok-tables.ensures.tells in
+    let made = unless-Ok (tables_fault parts) (Ok (map (named_table parts) (tables_in parts)))
+    (map plain_named c.in_ok-tables.tables.items) told in
+    cc (made.1)
 
-pub returns-in-Err-checked_tables-clause-refused : goal.returns-in-Err-checked_tables-clause-refused
-returns-in-Err-checked_tables-clause-refused c =
+pub returns-in_err-tables-clause-tells : goal.returns-in_err-tables-clause-tells
+returns-in_err-tables-clause-tells c =
     let spec = spec_tree c.args.spec.now in
-    let names = rw c.as_slice.ensures.value at c.in_default.ensures.kept in
-    let told = rw c.as_slice-2.ensures.value at c.in-Err-checked_tables.ensures.refused in
-    subst (IsFaultOf spec) (sym c.fault_of_table.ensures)
-    (end_of_tables spec c.in-Err-checked_tables.fault names
-    (sym c.rule_fault.ensures ∙ c.in_default-rule_fault.is) told)
+    let fault = c.in_err-tables.field-0.0 in
+    let names = rw c.as_slice.ensures.value at c.in_ok-check_names.ensures.tells in
+    let told = rw c.as_slice-2.ensures.value at c.in_err-tables.ensures.tells in
+    let ends : Carries (checked_outcome spec) (fault_in (Table fault)) =
+    end_of_tables spec names (sym c.rule_fault.ensures ∙ c.in_default.is) (tables.fault_in fault) told in
+    search rules
+
+pub returns-clause-tells : goal.returns-clause-tells
+returns-clause-tells c =
+    let spec = spec_tree c.args.spec.now in
+    let names = rw c.as_slice.ensures.value at c.in_ok-check_names.ensures.tells in
+    let told = rw c.as_slice-2.ensures.value at c.in_ok-tables.ensures.tells in
+    let made = unless-Ok (tables_fault spec.parts) (Ok (map (named_table spec.parts) (tables_in spec.parts)))
+    (map plain_named c.in_ok-tables.tables.items) told in
+    no_end spec names (sym c.rule_fault.ensures ∙ c.in_default.is) c.in_ok-resolve.field-0 made.0
+    c.in_ok-resolve.ensures

@@ -1,7 +1,8 @@
-use Rattle.std.proofs.Common.{Option, ◌+◌, ◌≡◌, ◌++◌, ◌∷◌, [], List, Some, map, take, sym, ap, ◌∙◌}
+use Rattle.std.proofs.Common.{Option, Ok, ◌+◌, ◌≡◌, ◌++◌, ◌∷◌, [], List, Some, map, take, sym, ap, ◌∙◌}
 use Rattle.std.proofs.lemmas.List.{append-nil, map-append, take_all}
 use Rattle.std.proofs.lemmas.Option.{none-some}
 use Rattle.std.specs.List.{filter_map}
+use Rattle.outcome_kit.specs.Outcome.{unless}
 use Rattle.gta_spec.specs.Parts.{TableTree, part_tree, table_tree}
 use Rattle.gta_checked.specs.Plain.{NamedTable, plain_named}
 use Rattle.spec_tables.specs.declared.fault.TablesFault.{TablesFault}
@@ -9,7 +10,7 @@ use Rattle.spec_tables.specs.Checked.{earlier}
 use Rattle.spec_tables.specs.Tables.{named_table, tables_in}
 use Rattle.spec_tables.specs.Faults.{fault_of, first_told, tables_fault}
 use Rattle.spec_tables.proofs.Rows.{table_ready, tables_in-next, no_table_line}
-use Rattle.spec_tables.proofs.Told.{first_told-none, first_told-push, faults-same, faults-more, is_end}
+use Rattle.spec_tables.proofs.Told.{first_told-none, first_told-push, faults-same, faults-more, told-ends}
 use Rattle.spec_tables.proofs.tables.checked_tables.Goals as goal
 use Rattle.spec_tables.proofs.tables.checked_tables.Goals.{in-Table+in_ok-made+in-Ok+in_ok-push-in-Ok, in-Table+in_ok-made+in-Err, in_default}
 
@@ -72,18 +73,27 @@ loop-part-preserved c =
           })
     ]
 
-pub returns-in-Some-clause-refused : goal.returns-in-Some-clause-refused
+pub returns-in-Some : goal.returns-in-Some
 unfolding tables_fault
-returns-in-Some-clause-refused c =
+returns-in-Some c =
+    let parts = map part_tree c.args.parts.now in
     let whole : take c.loop-part.part-index c.args.parts.now ≡ c.args.parts.now =
     take_all c.loop-part.part-index c.args.parts.now c.loop-part-test.false in
     let told = rw whole at c.loop-part.invariant.told in
-    is_end (tables_fault (map part_tree c.args.parts.now)) c.in-Some.fault (sym told ∙ c.in-Some.is)
+    record {
+      tells = told-ends (tables_fault parts) (Ok (map (named_table parts) (tables_in parts))) c.in-Some.fault
+          (sym told ∙ c.in-Some.is);
+    }
 
-pub returns-in-None-clause-accepted : goal.returns-in-None-clause-accepted
+pub returns-in-None : goal.returns-in-None
 unfolding tables_fault
-returns-in-None-clause-accepted c =
+returns-in-None c =
+    let parts = map part_tree c.args.parts.now in
     let whole : take c.loop-part.part-index c.args.parts.now ≡ c.args.parts.now =
     take_all c.loop-part.part-index c.args.parts.now c.loop-part-test.false in
     let told = rw whole at c.loop-part.invariant.told in
-    sym told ∙ c.in-None.is
+    let tables = rw whole at c.loop-part.invariant.tables c.in-None.is in
+    let made = map (named_table parts) (tables_in parts) in
+    record {
+      tells = ap (λ (o : Option TablesFault). unless o (Ok made)) (sym told ∙ c.in-None.is) ∙ ap Ok (sym tables);
+    }

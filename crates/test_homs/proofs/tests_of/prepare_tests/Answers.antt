@@ -8,6 +8,7 @@ use Rattle.test_homs.specs.Negatives.{first_negative}
 use Rattle.test_homs.specs.Prepared.{plain_prepared}
 use Rattle.test_homs.proofs.Preparations.{its_tests, its_tests-AreJoinable, its_tests-ArePrepared}
 use Rattle.test_homs.proofs.Preparations.{its_tests-few, joined_tests, key_count-components}
+use Rattle.test_homs.proofs.Faults.{few_keys, many_keys}
 use Rattle.test_homs.proofs.tests_of.prepare_tests.Goals as goal
 
 pub product_of-requires : goal.product_of-requires
@@ -27,14 +28,15 @@ tests_in-requires-clause-joinable c =
     (subst (λ (labels : ℕ). AreJoinable (rows.count * labels) (map plain_prepared c.put_in_order.new.tests.items))
     (sym c.label_count-labels.ensures) (its_tests-AreJoinable checked rows c.first_negative.ensures.within none _ its))
 
-pub returns-in-Ok-clause-small : goal.returns-in-Ok-clause-small
-returns-in-Ok-clause-small c =
+pub returns-in-Ok-clause-tells : goal.returns-in-Ok-clause-tells
+returns-in-Ok-clause-tells c =
     let checked = c.args.checked.now in let rows = plain_rows c.args.rows.now in
     let its = its_tests checked rows _ _ c.in_ok-tests.ensures c.in_ok-put_in_order.ensures.permuted in
     let parts = c.in_ok-components.ensures ∙ ap components (ap (map plain_prepared) c.deref.ensures.value) in
     let keys =
     key_count-components checked rows _ its (plain_parts c.in-Ok.product) (c.in-Ok.ensures.parts ∙ parts) in
-    omega (arith, keys, c.in-Ok.product.counted, c.in-Ok.product.within)
+    few_keys checked rows (sym c.first_negative.ensures.first ∙ c.in_default.is)
+    (omega (arith, keys, c.in-Ok.product.counted, c.in-Ok.product.within))
 
 pub returns-in-Ok-clause-prepared : goal.returns-in-Ok-clause-prepared
 returns-in-Ok-clause-prepared c =
@@ -50,12 +52,12 @@ returns-in-Ok-clause-prepared c =
     subst (ArePrepared checked rows) (sym made)
     (its_tests-ArePrepared checked rows c.first_negative.ensures.within none tests its)
 
-pub returns-clause-refused : goal.returns-clause-refused
-returns-clause-refused c =
+pub returns-clause-tells : goal.returns-clause-tells
+returns-clause-tells c =
     let checked = c.args.checked.now in let rows = plain_rows c.args.rows.now in
     let none : first_negative checked rows ≡ None = sym c.first_negative.ensures.first ∙ c.in_default.is in
     let its = its_tests checked rows _ _ c.in_ok-tests.ensures c.in_ok-put_in_order.ensures.permuted in
     let parts = c.in_ok-components.ensures ∙ ap components (ap (map plain_prepared) c.deref.ensures.value) in
     let keys = key_count-components checked rows _ its _ parts in
     let more = c.in-Err.ensures.too_large.0 refl in
-    (none, c.in-Err.ensures.keys ∙ keys, omega (arith, more, keys))
+    many_keys checked rows none (c.in-Err.ensures.keys ∙ keys) (omega (arith, more, keys))
