@@ -1,5 +1,5 @@
 -- The parts of a job's size are small enough for their product.
-use Rattle.std.proofs.Common.{◌≡◌, ℕ, ◌+◌, ◌*◌, ◌/◌, ◌%◌, ◌≤◌, ◌<◌, min, length, arith, mul-le-mul_left, mul-le-mul_right}
+use Rattle.std.proofs.Common.{ℕ, ◌+◌, ◌*◌, ◌/◌, ◌≤◌, length, arith, mul-le-mul_left, mul-le-mul_right}
 use Rattle.std.specs.Int.{div_ceil}
 use Rattle.std.proofs.Math.Nat.{div-mul-le_self}
 use Rattle.shape_gen.specs.declared.shape.Shape.{Shape}
@@ -8,7 +8,7 @@ use Rattle.shape_gen.specs.Parts.{components}
 use Rattle.gta_checked.specs.declared.resolved.Goal.{Goal}
 use Rattle.gta_checked.specs.declared.resolved.Goal.TheVariants.{Count, Any, Max, Min, Best}
 use Rattle.gta_checked.specs.Within.{IsGoalWithin}
-use Rattle.gta_job.specs.Sizes.{kept_a_key}
+use Rattle.fuse_answer.specs.Sizes.{kept_a_key}
 
 pub width-small : (shape : Shape) → length (components shape) ≤ 4
 width-small Sublists = omega arith
