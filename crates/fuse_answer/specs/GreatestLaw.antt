@@ -18,7 +18,8 @@ greatest-is : (ws : List ℤ) → aggregates.greatest ws ≡ greatest_of ws
 greatest-is [] = refl
 greatest-is (w ∷ ws) = chosen-fold int_max (λ a b c. omega (arith, ints, clamps)) w ws
 
-pub sum-is_greatest : (measure : ℕ) (checked : PlainChecked) (rows : PlainRows) → goal_measure checked.goal ≡ Some measure
+pub sum-is_greatest : (measure : ℕ) (checked : PlainChecked) (rows : PlainRows)
+    → goal_measure checked.goal ≡ Some measure
     → sum_over max_plus (λ mark weight. Some weight) (goal_weight checked rows) (kept checked rows)
     ≡ greatest checked rows measure
 sum-is_greatest measure checked rows is =

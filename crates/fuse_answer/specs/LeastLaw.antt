@@ -18,7 +18,8 @@ least-is : (ws : List ℤ) → aggregates.least ws ≡ least_of ws
 least-is [] = refl
 least-is (w ∷ ws) = chosen-fold int_min (λ a b c. omega (arith, ints, clamps)) w ws
 
-pub sum-is_least : (measure : ℕ) (checked : PlainChecked) (rows : PlainRows) → goal_measure checked.goal ≡ Some measure
+pub sum-is_least : (measure : ℕ) (checked : PlainChecked) (rows : PlainRows)
+    → goal_measure checked.goal ≡ Some measure
     → sum_over min_plus (λ mark weight. Some weight) (goal_weight checked rows) (kept checked rows)
     ≡ least checked rows measure
 sum-is_least measure checked rows is =

@@ -1,5 +1,5 @@
--- How many rows a leaf has. No answer depends on it. A join takes the square of the number of keys, so that leaves of fewer
--- rows than keys don't pay; small jobs keep the leaf that was asked for.
+-- How many rows a leaf has. No answer depends on it. A join takes the square of the number of keys, so that leaves of
+-- fewer rows than keys don't pay; small jobs keep the leaf that was asked for.
 use Rattle.std.specs.Prelude.{ℕ, ◌*◌, min, max, nat_lt, if◌then◌else◌}
 use Rattle.std.specs.Int.{div_ceil}
 use Rattle.fuse_answer.specs.declared.leaves.TheConstants.{DENSE_KEYS, SMALL_ROWS, LIST_ROWS}
@@ -8,7 +8,8 @@ use Rattle.fuse_answer.specs.declared.leaves.TheConstants.{DENSE_KEYS, SMALL_ROW
 abbrev pub share : ℕ → ℕ → ℕ
 share workers rows = div_ceil rows workers
 
--- where maps are rows of lanes: as many rows as keys where there are enough for the workers, and no more than four times as many
+-- where maps are rows of lanes: as many rows as keys where there are enough for the workers, and no more than four times
+-- as many
 abbrev pub long_lane_leaf : ℕ → ℕ → ℕ → ℕ → ℕ
 long_lane_leaf workers leaf rows keys = max leaf (min (4 * keys) (max keys (share workers rows)))
 

@@ -7,7 +7,7 @@ use Rattle.shape_gen.specs.declared.mark.Mark.{Mark}
 use Rattle.gta_checked.specs.PlainRows.{PlainRows}
 use Rattle.gta_checked.specs.Plain.{PlainChecked}
 use Rattle.best_k.specs.Aggregate.{weighed}
-use Rattle.gta_meaning.specs.Answers.{entry_of}
+use Rattle.gta_meaning.specs.Answers.{entry_of, totals}
 use Rattle.gta_meaning.specs.Kept.{kept}
 use Rattle.gta_meaning.specs.Values.{total, value}
 use Rattle.fuse_answer.specs.Weights.{weight_by}
@@ -37,9 +37,10 @@ module _ (checked : PlainChecked) (rows : PlainRows) (measure : ℕ) where
 
   -- the weights of the candidates that pass are their totals
   pub kept-totals : (goal : Option ℕ) → goal ≡ Some measure
-      → map (total_weight (weight_by checked rows goal)) (kept checked rows) ≡ map (total checked rows measure) (kept checked rows)
+      → map (total_weight (weight_by checked rows goal)) (kept checked rows) ≡ totals checked rows measure
   kept-totals goal is =
-      ap (λ g. map (total_weight (weight_by checked rows g)) (kept checked rows)) is ∙ weights-totals (kept checked rows)
+      ap (λ g. map (total_weight (weight_by checked rows g)) (kept checked rows)) is
+      ∙ weights-totals (kept checked rows)
 
   weighed-same : (cs : List (List Mark))
       → weighed (weight_by checked rows (Some measure)) cs ≡ map (entry_of checked rows measure) cs

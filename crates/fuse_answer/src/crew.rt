@@ -5,8 +5,8 @@ ghost use Rattle.steal_deal.specs.declared.partition.TheConstants.{MOST_WORKERS}
 
 use std::alloc::Global;
 
-/// The runtime whose threads compute, where memory is taken, the gate that workers pass at each of their turns, how many
-/// workers there are, and of how many rows a leaf has that is asked for; the last leaf may be shorter.
+/// The runtime whose threads compute, where they take memory, the gate that workers pass at each of their turns, how
+/// many workers there are, and how many rows a leaf has; the last leaf may be shorter.
 #[derive(Drop)]
 pub struct Crew<'a, R, G> {
     pub rt: &'a R,
@@ -19,17 +19,19 @@ pub struct Crew<'a, R, G> {
     ghost some_rows: { 0 < leaf },
 }
 
-/// The same crew over leaves of so many rows.
-pub(crate) fn with_leaf<'a, R, G>(crew: &Crew<'a, R, G>, leaf: u32) -> Crew<'a, R, G>
-    requires some_rows { 0 < leaf }
-    ensures workers { result.workers ≡ crew.now.workers }
-    ensures leaf { result.leaf ≡ leaf }
-{
-    Crew {
-        rt: crew.rt,
-        alloc: crew.alloc,
-        gate: crew.gate,
-        workers: crew.workers,
-        leaf,
+impl<'a, R, G> Crew<'a, R, G> {
+    /// The same crew over leaves of so many rows.
+    pub(crate) fn with_leaf(&self, leaf: u32) -> Crew<'a, R, G>
+        requires some_rows { 0 < leaf }
+        ensures workers { result.workers ≡ self.now.workers }
+        ensures leaf { result.leaf ≡ leaf }
+    {
+        Crew {
+            rt: self.rt,
+            alloc: self.alloc,
+            gate: self.gate,
+            workers: self.workers,
+            leaf,
+        }
     }
 }

@@ -3,7 +3,7 @@
 ghost use Rattle.std.specs.Prelude.{◌≡◌};
 ghost use Rattle.fuse_answer.specs.Leaves as leaves;
 
-use crate::crew::{Crew, with_leaf};
+use crate::crew::Crew;
 
 /// Maps of at least so many keys are rows of lanes, where the semiring has lanes.
 pub const DENSE_KEYS: u32 = 16;
@@ -20,11 +20,11 @@ pub(crate) fn lane_crew<'a, R, G>(crew: &Crew<'a, R, G>, rows: u32, keys: u32) -
     ensures leaf { result.leaf ≡ leaves.lane_leaf crew.now.workers crew.now.leaf rows keys }
 {
     if rows <= SMALL_ROWS || keys < DENSE_KEYS {
-        return with_leaf(crew, crew.leaf);
+        return crew.with_leaf(crew.leaf);
     }
     let share = rows.div_ceil(crew.workers);
     let leaf = crew.leaf.max(keys.saturating_mul(4).min(keys.max(share)));
-    with_leaf(crew, leaf)
+    crew.with_leaf(leaf)
 }
 
 /// The crew with longer leaves, over lists.
@@ -33,11 +33,11 @@ pub(crate) fn list_crew<'a, R, G>(crew: &Crew<'a, R, G>, rows: u32, keys: u32) -
     ensures leaf { result.leaf ≡ leaves.list_leaf crew.now.workers crew.now.leaf rows keys }
 {
     if rows <= SMALL_ROWS {
-        return with_leaf(crew, crew.leaf);
+        return crew.with_leaf(crew.leaf);
     }
     let share = rows.div_ceil(crew.workers);
     let leaf = crew
         .leaf
         .max(share.min(LIST_ROWS.max(keys.saturating_mul(16))));
-    with_leaf(crew, leaf)
+    crew.with_leaf(leaf)
 }

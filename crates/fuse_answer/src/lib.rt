@@ -1,8 +1,8 @@
 //! What is asked of the candidates that pass, computed over maps: no candidate is listed.
-//! This crate knows both meaning and algebra, since its contracts say that the sum which fusion gives is the plain answer.
-//! A job is in job.rt, who computes in crew.rt, and what a question is in question.rt; each question has its file.
-//! The sum in any semiring is in sum.rt, and over rows of lanes in dense.rt. specs/Weights.antt has what a mark weighs,
-//! specs/Letters.antt the letters of a job, and specs/Sizes.antt how many entries its pieces count.
+//! This crate knows both meaning and algebra, since its contracts say that the sum which fusion gives is the plain
+//! answer. A job is in job.rt, who computes in crew.rt, and what a question is in question.rt; each question has its
+//! file. The sum in any semiring is in sum.rt, and over rows of lanes in dense.rt. specs/Weights.antt has what a mark
+//! weighs, specs/Letters.antt the letters of a job, and specs/Sizes.antt how many entries its pieces count.
 #![tactic(auto)]
 
 mod any;

@@ -1,5 +1,5 @@
-//! What an aggregate is: a semiring in which the sum over the candidates that pass tells the answer, and how many entries
-//! its pieces count. The questions are in count.rt, any.rt, greatest.rt, least.rt and best.rt.
+//! What an aggregate is: a semiring in which the sum over the candidates that pass tells the answer, and how many
+//! entries its pieces count. The questions are in count.rt, any.rt, greatest.rt, least.rt and best.rt.
 
 ghost use Rattle.std.specs.Prelude.{◌≡◌, ◌≤◌, IfOk};
 ghost use Rattle.semiring_kit.specs.Aggregates.{sum_over};
@@ -22,7 +22,7 @@ use std::alloc::{AllocError, Global};
 use std::thread::Threads;
 use worker_pool::Gate;
 
-/// An aggregate, as a question on the candidates that pass. The sum over them, in this semiring, tells its answer.
+/// An aggregate, as a question on the candidates that pass. The sum over them, in its semiring, tells the answer.
 pub trait Question: Drop {
     type Kit: Semiring + Sync;
 
@@ -31,7 +31,7 @@ pub trait Question: Drop {
     // the aggregate that asks it
     ghost goal: { Self → Goal };
 
-    // a job of this aggregate weighs marks as the question needs it
+    // a job of this aggregate weighs its marks by the question's measure, where the question has one
     ghost is_weighed: { Self → Goal → Type 0 };
 
     ghost kit: { Self → Self.Kit };

@@ -1,4 +1,3 @@
 pub mod Records
-pub mod Bounds
 pub mod Ordered
 pub mod Labelled

@@ -31,9 +31,11 @@ overflow_cast-result c =
 
 pub returns-in-Some : goal.returns-in-Some
 returns-in-Some c =
+    let checked = c.args.prepared.now.job.checked in
+    let rows = plain_rows c.args.prepared.now.job.rows in
     let back = to_z-of_z w128 c.value_of.result (search rules) in
     let within = small c in
     let fits = fits_signed_from_abs w64 c.value_of.result (omega (arith, within)) in
     rw back (to_z-of_z w64 c.value_of.result (search rules)) ∙ c.value_of.ensures.value
-    ∙ ap (λ measure. weight_by c.args.prepared.now.job.checked (plain_rows c.args.prepared.now.job.rows) measure (mark c.args.row c.args.label))
+    ∙ ap (λ measure. weight_by checked rows measure (mark c.args.row c.args.label))
     (sym (the_measure c))
