@@ -2,5 +2,4 @@ pub mod Light
 pub mod AtPlaces
 pub mod Lawful
 pub mod Kept
-pub mod Aggregates
 mod FewLeaves

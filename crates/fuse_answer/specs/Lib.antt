@@ -2,4 +2,10 @@ pub mod Weights
 pub mod Leaves
 pub mod Letters
 pub mod Keys
-pub mod Crews
+pub mod Sizes
+pub mod TotalLaws
+pub mod CountLaw
+pub mod AnyLaw
+pub mod GreatestLaw
+pub mod LeastLaw
+pub mod BestLaw

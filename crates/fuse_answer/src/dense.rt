@@ -1,25 +1,21 @@
 //! The sum over the candidates that pass, over rows with a lane for each key where there are many.
 //! What sends values to threads names its maps, so that the calls of sum.rt stand here once more.
 
-ghost use Rattle.std.specs.Prelude.{◌≡◌, ◌<◌, ◌≤◌, None, IfOk, length};
+ghost use Rattle.std.specs.Prelude.{◌≡◌, ◌<◌, ◌≤◌, IfOk, length};
 ghost use Rattle.semiring_kit.specs.Aggregates.{sum_over};
 ghost use Rattle.shape_gen.specs.Candidates.{candidates};
 ghost use Rattle.fuse_core.specs.Letters.{key_of, weight_of};
 ghost use Rattle.fuse_core.specs.Plans.{accepted_sum};
 ghost use Rattle.gta_checked.specs.PlainRows.{plain_rows};
-ghost use Rattle.gta_meaning.specs.Heavy.{first_heavy};
-ghost use Rattle.gta_meaning.specs.InRange.{HasColumnsOf};
 ghost use Rattle.gta_meaning.specs.Kept.{kept};
-ghost use Rattle.test_homs.specs.Homs.{ArePrepared};
-ghost use Rattle.fuse_answer.specs.Crews.{IsCrew};
 ghost use Rattle.fuse_answer.specs.Keys.{DecidePassing};
 ghost use Rattle.fuse_answer.specs.Weights.{goal_weight};
 
 use crate::crew::Crew;
+use crate::job::PreparedJob;
 use crate::leaves::{DENSE_KEYS, lane_crew};
 use crate::sum::{plan_by_keys, sum_of_kept};
 use fuse_core::{Plan, finish};
-use gta_checked::{Checked, Rows};
 use gta_spec::ROW_LIMIT;
 use interval_kit::{Fused, cut_of};
 use lane_rows::{DenseKit, Lanes};
@@ -29,66 +25,49 @@ use std::marker::Brand;
 use std::sync::ledger::{Blank, Ledger};
 use std::thread::Threads;
 use step_count::Steps;
-use test_homs::Tests;
 use worker_pool::{Gate, solve};
 
 /// The sum, over the candidates that pass, of the products of their marks' elements, as `sum_of_kept` gives it:
 /// over rows of lanes where there are at least `DENSE_KEYS` keys, and then by longer leaves in large jobs.
 /// Refuses only for want of memory.
 pub fn lane_sum_of_kept<R: Threads + Sync, G: Gate + Sync, S: Lanes + Sync>(
-    rt: &R,
-    alloc: Global,
-    crew: Crew,
-    gate: &G,
-    checked: &Checked,
-    rows: &Rows,
-    tests: &Tests,
+    crew: &Crew<R, G>,
+    prepared: &PreparedJob,
     kit: S,
 ) -> Result<S::Elem, AllocError>
-    requires crew { IsCrew crew }
-    requires columns { HasColumnsOf checked.now (plain_rows rows.now) }
-    requires few { rows.now.count ≤ ROW_LIMIT }
-    requires light { first_heavy checked.now (plain_rows rows.now) ≡ None }
-    requires prepared { ArePrepared checked.now (plain_rows rows.now) tests.now }
-    ensures { let weight = goal_weight checked.now (plain_rows rows.now) in
-        let candidates = kept checked.now (plain_rows rows.now) in
+    ensures { let job = prepared.now.job in
+        let weight = goal_weight job.checked (plain_rows job.rows) in
+        let candidates = kept job.checked (plain_rows job.rows) in
         IfOk result (λ sum. sum ≡ sum_over (S.ring kit) (S.of_mark kit) weight candidates) }
 {
+    let tests = &prepared.tests;
     let size = tests.product().size();
     if size < DENSE_KEYS {
-        return sum_of_kept(rt, alloc, crew, gate, checked, rows, tests, kit);
+        return sum_of_kept(crew, prepared, kit);
     }
-    let keys = tests.product().twin(alloc)?;
+    let keys = tests.product().twin(crew.alloc)?;
     let kit = DenseKit { kit, keys };
-    let crew = lane_crew(crew, rows.count, size);
-    let (letters, accept) = (tests.letters(), tests.accept());
-    dense_sum_by_keys(rt, alloc, crew, gate, checked, rows, kit, letters, accept)
+    let crew = lane_crew(crew, prepared.job.rows.count, size);
+    dense_sum_by_keys(&crew, prepared, kit, tests.letters(), tests.accept())
 }
 
 /// The same, with keys of any monoid that decide which candidates pass.
 fn dense_sum_by_keys<R: Threads + Sync, G: Gate + Sync, S: Lanes + Sync, M: Monoid + Sync>(
-    rt: &R,
-    alloc: Global,
-    crew: Crew,
-    gate: &G,
-    checked: &Checked,
-    rows: &Rows,
+    crew: &Crew<R, G>,
+    prepared: &PreparedJob,
     kit: DenseKit<S, M>,
     keys: &[u32],
     accept: &[bool],
 ) -> Result<S::Elem, AllocError>
-    requires crew { IsCrew crew }
-    requires columns { HasColumnsOf checked.now (plain_rows rows.now) }
-    requires few { rows.now.count ≤ ROW_LIMIT }
-    requires light { first_heavy checked.now (plain_rows rows.now) ≡ None }
-    requires decide { DecidePassing checked.now (plain_rows rows.now)
+    requires decide { let job = prepared.now.job in DecidePassing job.checked (plain_rows job.rows)
         (M.size kit.keys) (M.unit kit.keys) (M.mul kit.keys) keys.now accept.now }
-    ensures { let weight = goal_weight checked.now (plain_rows rows.now) in
-        let candidates = kept checked.now (plain_rows rows.now) in
+    ensures { let job = prepared.now.job in
+        let weight = goal_weight job.checked (plain_rows job.rows) in
+        let candidates = kept job.checked (plain_rows job.rows) in
         IfOk result (λ sum. sum ≡ sum_over (S.ring kit.kit) (S.of_mark kit.kit) weight candidates) }
 {
-    let plan = plan_by_keys(alloc, checked, rows, kit, keys)?;
-    dense_accepted_sum::<R, G, S, M, Brand>(rt, alloc, crew, gate, &plan, accept, Blank::new(1))
+    let plan = plan_by_keys(crew.alloc, prepared, kit, keys)?;
+    dense_accepted_sum::<R, G, S, M, Brand>(crew, &plan, accept, Blank::new(1))
 }
 
 /// The sum of the weights of the plan's candidates whose keys are accepted, by so many workers.
@@ -100,15 +79,11 @@ fn dense_accepted_sum<
     M: Monoid + Sync,
     L: Ledger,
 >(
-    rt: &R,
-    alloc: Global,
-    crew: Crew,
-    gate: &G,
+    crew: &Crew<R, G>,
     plan: &Plan<DenseKit<S, M>>,
     accept: &[bool],
     blank: Blank,
 ) -> Result<S::Elem, AllocError>
-    requires crew { IsCrew crew }
     requires few { plan.now.rows ≤ ROW_LIMIT }
     requires one_a_key { length accept.now ≡ M.size plan.now.kit.keys }
     requires same_name { blank.name ≡ L.name }
@@ -121,8 +96,16 @@ fn dense_accepted_sum<
         let all = candidates plan.now.shape plan.now.rows plan.now.labels in
         IfOk result (λ sum. sum ≡ accepted_sum ring key weight accept.now all) }
 {
-    let cut = cut_of(alloc, plan.rows(), crew.leaf)?;
+    let cut = cut_of(crew.alloc, plan.rows(), crew.leaf)?;
     let mut steps = Steps::<L>::new(blank);
-    let value = solve(rt, alloc, plan, &cut, crew.workers, gate, &mut steps)?;
-    finish(alloc, plan, &value, accept)
+    let value = solve(
+        crew.rt,
+        crew.alloc,
+        plan,
+        &cut,
+        crew.workers,
+        crew.gate,
+        &mut steps,
+    )?;
+    finish(crew.alloc, plan, &value, accept)
 }

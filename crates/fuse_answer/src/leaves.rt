@@ -1,7 +1,6 @@
 //! How many rows a leaf has, by the number of keys. No answer depends on it. specs/Leaves.antt has the numbers.
 
 ghost use Rattle.std.specs.Prelude.{◌≡◌};
-ghost use Rattle.fuse_answer.specs.Crews.{IsCrew};
 ghost use Rattle.fuse_answer.specs.Leaves as leaves;
 
 use crate::crew::Crew;
@@ -16,31 +15,29 @@ pub const SMALL_ROWS: u32 = 1024;
 pub const LIST_ROWS: u32 = 1024;
 
 /// The crew with longer leaves where there are many keys, over rows of lanes.
-pub(crate) fn lane_crew(crew: Crew, rows: u32, keys: u32) -> Crew
-    requires crew { IsCrew crew }
-    ensures crew { IsCrew result }
-    ensures leaf { result ≡ leaves.lane_crew crew rows keys }
+pub(crate) fn lane_crew<'a, R, G>(crew: &Crew<'a, R, G>, rows: u32, keys: u32) -> Crew<'a, R, G>
+    ensures workers { result.workers ≡ crew.now.workers }
+    ensures leaf { result.leaf ≡ leaves.lane_leaf crew.now.workers crew.now.leaf rows keys }
 {
     if rows <= SMALL_ROWS || keys < DENSE_KEYS {
-        return crew;
+        return crew.with_leaf(crew.leaf);
     }
     let share = rows.div_ceil(crew.workers);
     let leaf = crew.leaf.max(keys.saturating_mul(4).min(keys.max(share)));
-    Crew { leaf, ..crew }
+    crew.with_leaf(leaf)
 }
 
 /// The crew with longer leaves, over lists.
-pub(crate) fn list_crew(crew: Crew, rows: u32, keys: u32) -> Crew
-    requires crew { IsCrew crew }
-    ensures crew { IsCrew result }
-    ensures leaf { result ≡ leaves.list_crew crew rows keys }
+pub(crate) fn list_crew<'a, R, G>(crew: &Crew<'a, R, G>, rows: u32, keys: u32) -> Crew<'a, R, G>
+    ensures workers { result.workers ≡ crew.now.workers }
+    ensures leaf { result.leaf ≡ leaves.list_leaf crew.now.workers crew.now.leaf rows keys }
 {
     if rows <= SMALL_ROWS {
-        return crew;
+        return crew.with_leaf(crew.leaf);
     }
     let share = rows.div_ceil(crew.workers);
     let leaf = crew
         .leaf
         .max(share.min(LIST_ROWS.max(keys.saturating_mul(16))));
-    Crew { leaf, ..crew }
+    crew.with_leaf(leaf)
 }

@@ -1,18 +1,31 @@
 //! What is asked of the candidates that pass, computed over maps: no candidate is listed.
-//! This crate knows both meaning and algebra, since its contracts say that the sum which fusion
-//! gives is the plain answer. The sum in any semiring is in sum.rt, the answers are in answers.rt.
-//! specs/Weights.antt has what a mark weighs, and specs/Letters.antt the letters of a job.
+//! This crate knows both meaning and algebra, since its contracts say that the sum which fusion gives is the plain
+//! answer. A job is in job.rt, who computes in crew.rt, and what a question is in question.rt; each question has its
+//! file. The sum in any semiring is in sum.rt, and over rows of lanes in dense.rt. specs/Weights.antt has what a mark
+//! weighs, specs/Letters.antt the letters of a job, and specs/Sizes.antt how many entries its pieces count.
 #![tactic(auto)]
 
-mod answers;
+mod any;
+mod best;
+mod count;
 mod crew;
 mod dense;
+mod greatest;
+mod job;
+mod least;
 mod leaves;
 mod letters;
+mod question;
 mod sum;
 
-pub use answers::{any_kept, best_kept, count_of_kept, greatest_kept, least_kept};
+pub use any::Whether;
+pub use best::BestOf;
+pub use count::HowMany;
 pub use crew::Crew;
 pub use dense::lane_sum_of_kept;
+pub use greatest::GreatestOf;
+pub use job::{Job, PreparedJob};
+pub use least::LeastOf;
 pub use leaves::{DENSE_KEYS, LIST_ROWS, SMALL_ROWS};
+pub use question::{Question, answer_to, lane_answer_to};
 pub use sum::sum_of_kept;

@@ -1,26 +1,22 @@
 //! The sum over the candidates that pass, in any semiring.
 
-ghost use Rattle.std.specs.Prelude.{◌≡◌, ◌*◌, ◌<◌, ◌≤◌, None, IfOk, length};
+ghost use Rattle.std.specs.Prelude.{◌≡◌, ◌*◌, ◌<◌, ◌≤◌, IfOk, length};
 ghost use Rattle.monoid_kit.specs.Items.{AllElements};
 ghost use Rattle.semiring_kit.specs.Aggregates.{sum_over};
 ghost use Rattle.shape_gen.specs.Candidates.{candidates};
 ghost use Rattle.fuse_core.specs.Letters.{key_of, weight_of};
 ghost use Rattle.fuse_core.specs.Plans.{accepted_sum};
 ghost use Rattle.gta_checked.specs.PlainRows.{plain_rows};
-ghost use Rattle.gta_meaning.specs.Heavy.{first_heavy};
 ghost use Rattle.gta_meaning.specs.InRange as in_range;
-ghost use Rattle.gta_meaning.specs.InRange.{HasColumnsOf};
 ghost use Rattle.gta_meaning.specs.Kept.{kept};
-ghost use Rattle.test_homs.specs.Homs.{ArePrepared};
-ghost use Rattle.fuse_answer.specs.Crews.{IsCrew};
 ghost use Rattle.fuse_answer.specs.Keys.{DecidePassing};
 ghost use Rattle.fuse_answer.specs.Letters as letters;
 ghost use Rattle.fuse_answer.specs.Weights.{goal_weight};
 
 use crate::crew::Crew;
+use crate::job::PreparedJob;
 use crate::letters::letters_of;
 use fuse_core::{Plan, finish, plan_of};
-use gta_checked::{Checked, Rows};
 use gta_meaning::label_count;
 use gta_spec::ROW_LIMIT;
 use interval_kit::{Fused, cut_of};
@@ -32,105 +28,84 @@ use std::marker::Brand;
 use std::sync::ledger::{Blank, Ledger};
 use std::thread::Threads;
 use step_count::Steps;
-use test_homs::Tests;
 use worker_pool::{Gate, solve};
 
 /// The sum, over the candidates that pass, of the products of their marks' elements.
 /// No candidate is listed: workers compute leaves of rows, neighbours are joined, and the value of all
 /// rows is finished. Refuses only for want of memory.
 pub fn sum_of_kept<R: Threads + Sync, G: Gate + Sync, S: Semiring + Sync>(
-    rt: &R,
-    alloc: Global,
-    crew: Crew,
-    gate: &G,
-    checked: &Checked,
-    rows: &Rows,
-    tests: &Tests,
+    crew: &Crew<R, G>,
+    prepared: &PreparedJob,
     kit: S,
 ) -> Result<S::Elem, AllocError>
-    requires crew { IsCrew crew }
-    requires columns { HasColumnsOf checked.now (plain_rows rows.now) }
-    requires few { rows.now.count ≤ ROW_LIMIT }
-    requires light { first_heavy checked.now (plain_rows rows.now) ≡ None }
-    requires prepared { ArePrepared checked.now (plain_rows rows.now) tests.now }
-    ensures { let weight = goal_weight checked.now (plain_rows rows.now) in
-        let candidates = kept checked.now (plain_rows rows.now) in
+    ensures { let job = prepared.now.job in
+        let weight = goal_weight job.checked (plain_rows job.rows) in
+        let candidates = kept job.checked (plain_rows job.rows) in
         IfOk result (λ sum. sum ≡ sum_over (S.ring kit) (S.of_mark kit) weight candidates) }
 {
-    let keys = tests.product().twin(alloc)?;
+    let tests = &prepared.tests;
+    let keys = tests.product().twin(crew.alloc)?;
     let kit = SparseKit { kit, keys };
-    let (letters, accept) = (tests.letters(), tests.accept());
-    sum_by_keys(rt, alloc, crew, gate, checked, rows, kit, letters, accept)
+    sum_by_keys(crew, prepared, kit, tests.letters(), tests.accept())
 }
 
 /// The same, with keys of any monoid that decide which candidates pass.
 fn sum_by_keys<R: Threads + Sync, G: Gate + Sync, S: Semiring + Sync, M: Monoid + Sync>(
-    rt: &R,
-    alloc: Global,
-    crew: Crew,
-    gate: &G,
-    checked: &Checked,
-    rows: &Rows,
+    crew: &Crew<R, G>,
+    prepared: &PreparedJob,
     kit: SparseKit<S, M>,
     keys: &[u32],
     accept: &[bool],
 ) -> Result<S::Elem, AllocError>
-    requires crew { IsCrew crew }
-    requires columns { HasColumnsOf checked.now (plain_rows rows.now) }
-    requires few { rows.now.count ≤ ROW_LIMIT }
-    requires light { first_heavy checked.now (plain_rows rows.now) ≡ None }
-    requires decide { DecidePassing checked.now (plain_rows rows.now)
+    requires decide { let job = prepared.now.job in DecidePassing job.checked (plain_rows job.rows)
         (M.size kit.keys) (M.unit kit.keys) (M.mul kit.keys) keys.now accept.now }
-    ensures { let weight = goal_weight checked.now (plain_rows rows.now) in
-        let candidates = kept checked.now (plain_rows rows.now) in
+    ensures { let job = prepared.now.job in
+        let weight = goal_weight job.checked (plain_rows job.rows) in
+        let candidates = kept job.checked (plain_rows job.rows) in
         IfOk result (λ sum. sum ≡ sum_over (S.ring kit.kit) (S.of_mark kit.kit) weight candidates) }
 {
-    let plan = plan_by_keys(alloc, checked, rows, kit, keys)?;
-    accepted_sum::<R, G, S, M, Brand>(rt, alloc, crew, gate, &plan, accept, Blank::new(1))
+    let plan = plan_by_keys(crew.alloc, prepared, kit, keys)?;
+    accepted_sum::<R, G, S, M, Brand>(crew, &plan, accept, Blank::new(1))
 }
 
 /// The plan of the rows, with a key and the element of a weight for each row and label.
 pub(crate) fn plan_by_keys<K: MapKit>(
     alloc: Global,
-    checked: &Checked,
-    rows: &Rows,
+    prepared: &PreparedJob,
     kit: K,
     keys: &[u32],
 ) -> Result<Plan<K>, AllocError>
-    requires columns { HasColumnsOf checked.now (plain_rows rows.now) }
-    requires few { rows.now.count ≤ ROW_LIMIT }
-    requires light { first_heavy checked.now (plain_rows rows.now) ≡ None }
-    requires count { length keys.now ≡ rows.now.count * in_range.label_count checked.now }
+    requires count { let job = prepared.now.job in
+        length keys.now ≡ job.rows.count * in_range.label_count job.checked }
     requires keys_are_elements { let size = K.Keys.size (K.keys kit) in
         AllElements (λ key. key < size) (λ key. key) keys.now }
-    ensures { let weight = goal_weight checked.now (plain_rows rows.now) in
-        let labels = in_range.label_count checked.now in
-        let all = letters.letters_of (K.Kit.of_mark (K.kit kit)) weight keys.now rows.now.count labels in
+    ensures { let job = prepared.now.job in
+        let weight = goal_weight job.checked (plain_rows job.rows) in
+        let labels = in_range.label_count job.checked in
+        let all = letters.letters_of (K.Kit.of_mark (K.kit kit)) weight keys.now job.rows.count labels in
         IfOk result (λ plan. plan ≡ record {
-          shape = checked.now.shape;
-          rows = rows.now.count;
+          shape = job.checked.shape;
+          rows = job.rows.count;
           labels = labels;
           kit = kit;
           letters = all;
         }) }
 {
-    let letters = letters_of(alloc, checked, rows, kit.kit(), keys)?;
-    let labels = label_count(checked);
-    Ok(plan_of(*checked.shape(), rows.count, labels, kit, letters))
+    let letters = letters_of(alloc, prepared, kit.kit(), keys)?;
+    let job = &prepared.job;
+    let labels = label_count(&job.checked);
+    let shape = *job.checked.shape();
+    Ok(plan_of(shape, job.rows.count, labels, kit, letters))
 }
 
 /// The sum of the weights of the plan's candidates whose keys are accepted, by so many workers.
 /// A ledger counts the products of the gathering.
 fn accepted_sum<R: Threads + Sync, G: Gate + Sync, S: Semiring + Sync, M: Monoid + Sync, L: Ledger>(
-    rt: &R,
-    alloc: Global,
-    crew: Crew,
-    gate: &G,
+    crew: &Crew<R, G>,
     plan: &Plan<SparseKit<S, M>>,
     accept: &[bool],
     blank: Blank,
 ) -> Result<S::Elem, AllocError>
-    requires crew { IsCrew crew }
     requires few { plan.now.rows ≤ ROW_LIMIT }
     requires one_a_key { length accept.now ≡ M.size plan.now.kit.keys }
     requires same_name { blank.name ≡ L.name }
@@ -143,8 +118,16 @@ fn accepted_sum<R: Threads + Sync, G: Gate + Sync, S: Semiring + Sync, M: Monoid
         let all = candidates plan.now.shape plan.now.rows plan.now.labels in
         IfOk result (λ sum. sum ≡ accepted_sum ring key weight accept.now all) }
 {
-    let cut = cut_of(alloc, plan.rows(), crew.leaf)?;
+    let cut = cut_of(crew.alloc, plan.rows(), crew.leaf)?;
     let mut steps = Steps::<L>::new(blank);
-    let value = solve(rt, alloc, plan, &cut, crew.workers, gate, &mut steps)?;
-    finish(alloc, plan, &value, accept)
+    let value = solve(
+        crew.rt,
+        crew.alloc,
+        plan,
+        &cut,
+        crew.workers,
+        crew.gate,
+        &mut steps,
+    )?;
+    finish(crew.alloc, plan, &value, accept)
 }

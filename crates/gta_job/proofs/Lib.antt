@@ -1,5 +1,4 @@
 pub mod Records
-pub mod Bounds
 pub mod Ordered
 pub mod Labelled
 pub mod Keys

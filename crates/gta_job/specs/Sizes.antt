@@ -1,32 +1,14 @@
 -- The size of a job: how many entries its pieces may have together.
 use Rattle.std.specs.Prelude.{ℕ, ◌*◌, nat_lt, length, Option, Some, None, if◌then◌else◌}
-use Rattle.std.specs.Int.{div_ceil}
 use Rattle.shape_gen.specs.Parts.{components}
 use Rattle.monoid_product.specs.declared.product.TheConstants.{KEY_LIMIT}
 use Rattle.gta_checked.specs.PlainRows.{PlainRows}
-use Rattle.gta_checked.specs.declared.resolved.Goal.{Goal}
-use Rattle.gta_checked.specs.declared.resolved.Goal.TheVariants.{Count, Any, Max, Min, Best}
 use Rattle.gta_checked.specs.Plain.{PlainChecked}
 use Rattle.test_homs.specs.Sizes.{key_count}
+use Rattle.fuse_answer.specs.Sizes.{kept_a_key, pieces_by}
 use Rattle.report_text.specs.declared.refusal.Refusal.{Refusal}
 use Rattle.report_text.specs.declared.refusal.Refusal.TheVariants.{Keys, Size}
 use Rattle.gta_job.specs.declared.size.TheConstants.{SIZE_LIMIT}
-
--- how many candidates a key may keep: as many as the best list asks for
-abbrev pub kept_a_key : Goal → ℕ
-kept_a_key Count = 1
-kept_a_key Any = 1
-kept_a_key (Max measure) = 1
-kept_a_key (Min measure) = 1
-kept_a_key (Best k greatest measure) = k
-
--- how many pieces count: those of the leaves into which the rows are cut, and for the best list those of the rows
-abbrev pub pieces_by : Goal → ℕ → ℕ → ℕ
-pieces_by Count leaf rows = div_ceil rows leaf
-pieces_by Any leaf rows = div_ceil rows leaf
-pieces_by (Max measure) leaf rows = div_ceil rows leaf
-pieces_by (Min measure) leaf rows = div_ceil rows leaf
-pieces_by (Best k greatest measure) leaf rows = rows
 
 -- an entry for each component, key, kept candidate and piece
 abbrev pub job_size : ℕ → PlainChecked → PlainRows → ℕ

@@ -10,7 +10,7 @@ ghost use Rattle.gta_job.specs.Outcome.{outcome};
 
 use crate::rows_job::rows_report;
 use crate::steps::{bytes_from, checked_spec, table_rows};
-use fuse_answer::Crew;
+use fuse_answer::{Crew, Job};
 use gta_canonical::show_spec;
 use gta_rows::RowsFault;
 use gta_syntax::SpecFault;
@@ -173,7 +173,14 @@ pub fn answer_with<R: Threads + Sync, G: Gate + Sync>(
 {
     let (read, checked) = checked_spec(alloc, bytes)?;
     let rows = table_rows(alloc, &checked, bytes_from(bytes, read.rows_at))?;
-    rows_report(rt, alloc, Crew { workers, leaf }, gate, &checked, &rows)
+    let crew = Crew {
+        rt,
+        alloc,
+        gate,
+        workers,
+        leaf,
+    };
+    rows_report(&crew, Job { checked, rows })
 }
 
 /// The canonical text of the specification that the bytes hold, or its refusal. The table is not looked at.

@@ -6,7 +6,6 @@ ghost use Rattle.report_text.specs.Texts.{AreLabelled, list_text};
 ghost use Rattle.gta_text.specs.declared.lines.TheConstants.{INPUT_BOUND};
 ghost use Rattle.gta_words.specs.declared.words.Command.TheVariants.{List as ListKept};
 ghost use Rattle.gta_checked.specs.PlainRows.{plain_rows};
-ghost use Rattle.gta_meaning.specs.InRange.{HasColumnsOf};
 ghost use Rattle.gta_meaning.specs.Kept.{kept};
 ghost use Rattle.gta_meaning.specs.Listed.{marks_of};
 ghost use Rattle.gta_job.specs.Ends.{Passes, Tells};
@@ -15,7 +14,7 @@ ghost use Rattle.gta_job.specs.Outcome.{list_refusal, outcome};
 
 use crate::job::JobEnd;
 use crate::steps::{bytes_from, checked_spec, refuse_heavy, refuse_negative, table_rows};
-use gta_checked::{Checked, Rows};
+use fuse_answer::Job;
 use gta_meaning::{Candidate, ListFault, list_kept};
 use gta_text::Name;
 use report_text::{Refusal, push_candidate_line};
@@ -34,27 +33,26 @@ pub fn list_job(alloc: Global, bytes: &[u8]) -> Result<Vec<u8>, JobEnd>
 {
     let (read, checked) = checked_spec(alloc, bytes)?;
     let rows = table_rows(alloc, &checked, bytes_from(bytes, read.rows_at))?;
-    rows_list(alloc, &checked, &rows)
+    rows_list(alloc, &Job { checked, rows })
 }
 
-/// The list over rows, or their first refusal.
-fn rows_list(alloc: Global, checked: &Checked, rows: &Rows) -> Result<Vec<u8>, JobEnd>
-    requires columns { HasColumnsOf checked.now (plain_rows rows.now) }
-    ensures tells { Tells (λ text. text.items) (outcomes.rows_list checked.now (plain_rows rows.now)) result }
+/// The list of a job, or the first refusal of its rows.
+fn rows_list(alloc: Global, job: &Job) -> Result<Vec<u8>, JobEnd>
+    ensures tells { let list = outcomes.rows_list job.now.checked (plain_rows job.now.rows) in
+        Tells (λ text. text.items) list result }
 {
-    refuse_negative(alloc, checked, rows)?;
-    refuse_heavy(checked, rows)?;
-    let list = listed(alloc, checked, rows)?;
-    Ok(list_report(alloc, list.as_slice(), checked.labels())?)
+    refuse_negative(alloc, &job.checked, &job.rows)?;
+    refuse_heavy(&job.checked, &job.rows)?;
+    let list = listed(alloc, job)?;
+    Ok(list_report(alloc, list.as_slice(), job.checked.labels())?)
 }
 
 /// The candidates that pass, or the refusal of too many that are generated.
-fn listed(alloc: Global, checked: &Checked, rows: &Rows) -> Result<Vec<Candidate>, JobEnd>
-    requires columns { HasColumnsOf checked.now (plain_rows rows.now) }
-    ensures passes { Passes (list_refusal checked.now (plain_rows rows.now)) result }
-    ensures kept { IfOk result (λ list. marks_of list.items ≡ kept checked.now (plain_rows rows.now)) }
+fn listed(alloc: Global, job: &Job) -> Result<Vec<Candidate>, JobEnd>
+    ensures passes { Passes (list_refusal job.now.checked (plain_rows job.now.rows)) result }
+    ensures kept { IfOk result (λ list. marks_of list.items ≡ kept job.now.checked (plain_rows job.now.rows)) }
 {
-    match list_kept(alloc, checked, rows, CANDIDATE_LIMIT, MARK_LIMIT) {
+    match list_kept(alloc, &job.checked, &job.rows, CANDIDATE_LIMIT, MARK_LIMIT) {
         Ok(list) => Ok(list),
         Err(ListFault::TooMany) => Err(JobEnd::Refused(Refusal::ListSize)),
         Err(ListFault::Memory) => Err(JobEnd::Memory),

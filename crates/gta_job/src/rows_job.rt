@@ -1,61 +1,51 @@
-//! A checked specification over rows: what refuses them, and the report of the answer.
+//! A job: what refuses its rows, and the report of the answer. Its aggregates are listed here, each with its question.
 
-ghost use Rattle.std.specs.Prelude.{◌≡◌, ◌≤◌, None, IfOk};
+ghost use Rattle.std.specs.Prelude.{◌≡◌, None, IfOk};
 ghost use Rattle.report_text.specs.Texts.{report_text};
 ghost use Rattle.gta_checked.specs.PlainRows.{plain_rows};
-ghost use Rattle.gta_meaning.specs.Heavy.{first_heavy};
-ghost use Rattle.gta_meaning.specs.InRange.{HasColumnsOf};
 ghost use Rattle.test_homs.specs.Homs.{ArePrepared};
 ghost use Rattle.test_homs.specs.Negatives.{first_negative};
-ghost use Rattle.fuse_answer.specs.Crews.{IsCrew};
 ghost use Rattle.gta_job.specs.Answers as answers;
 ghost use Rattle.gta_job.specs.Ends.{Passes, Tells};
 ghost use Rattle.gta_job.specs.Outcome as outcomes;
-ghost use Rattle.gta_job.specs.Sizes.{keys_refusal};
+ghost use Rattle.gta_job.specs.Sizes.{keys_refusal, size_refusal};
 
 use crate::job::JobEnd;
 use crate::size::refuse_size;
 use crate::steps::{refuse_heavy, refuse_negative};
-use fuse_answer::{Crew, any_kept, best_kept, count_of_kept, greatest_kept, least_kept};
-use gta_checked::{Checked, Goal, Rows};
-use gta_spec::ROW_LIMIT;
-use monoid_kit::Monoid;
+use fuse_answer::{
+    BestOf, Crew, GreatestOf, HowMany, Job, LeastOf, PreparedJob, Question, Whether, answer_to,
+    lane_answer_to,
+};
+use gta_checked::Goal;
+use lane_rows::Lanes;
 use report_text::{Answer, Refusal, report};
-use std::alloc::{AllocError, Global};
+use std::alloc::Global;
 use std::thread::Threads;
 use test_homs::{Tests, ValueFault, prepare_tests};
 use worker_pool::Gate;
 
-/// The report of a checked specification over rows, or their first refusal.
+/// The report of a job, or the first refusal of its rows.
 pub(crate) fn rows_report<R: Threads + Sync, G: Gate + Sync>(
-    rt: &R,
-    alloc: Global,
-    crew: Crew,
-    gate: &G,
-    checked: &Checked,
-    rows: &Rows,
+    crew: &Crew<R, G>,
+    job: Job,
 ) -> Result<Vec<u8>, JobEnd>
-    requires crew { IsCrew crew }
-    requires columns { HasColumnsOf checked.now (plain_rows rows.now) }
-    requires few { rows.now.count ≤ ROW_LIMIT }
-    ensures tells { let report = outcomes.rows_report crew.leaf checked.now (plain_rows rows.now) in
+    ensures tells { let report = outcomes.rows_report crew.now.leaf job.checked (plain_rows job.rows) in
         Tells (λ text. text.items) report result }
 {
-    refuse_negative(alloc, checked, rows)?;
-    refuse_heavy(checked, rows)?;
-    let tests = tests_of(alloc, checked, rows)?;
-    refuse_size(checked, rows, tests.product().size(), crew.leaf)?;
-    Ok(answer_report(rt, alloc, crew, gate, checked, rows, &tests)?)
+    refuse_negative(crew.alloc, &job.checked, &job.rows)?;
+    refuse_heavy(&job.checked, &job.rows)?;
+    let tests = tests_of(crew.alloc, &job)?;
+    answer_report(crew, &PreparedJob { job, tests })
 }
 
 /// The tests as letters and keys, over rows without a negative value; or the refusal of too many keys.
-fn tests_of(alloc: Global, checked: &Checked, rows: &Rows) -> Result<Tests, JobEnd>
-    requires columns { HasColumnsOf checked.now (plain_rows rows.now) }
-    requires natural { first_negative checked.now (plain_rows rows.now) ≡ None }
-    ensures passes { Passes (keys_refusal checked.now) result }
-    ensures prepared { IfOk result (ArePrepared checked.now (plain_rows rows.now)) }
+fn tests_of(alloc: Global, job: &Job) -> Result<Tests, JobEnd>
+    requires natural { first_negative job.now.checked (plain_rows job.now.rows) ≡ None }
+    ensures passes { Passes (keys_refusal job.now.checked) result }
+    ensures prepared { IfOk result (ArePrepared job.now.checked (plain_rows job.now.rows)) }
 {
-    match prepare_tests(alloc, checked, rows) {
+    match prepare_tests(alloc, &job.checked, &job.rows) {
         Ok(tests) => Ok(tests),
         Err(ValueFault::TooManyKeys { keys }) => Err(JobEnd::Refused(Refusal::Keys { keys })),
         Err(ValueFault::Memory) => Err(JobEnd::Memory),
@@ -63,57 +53,87 @@ fn tests_of(alloc: Global, checked: &Checked, rows: &Rows) -> Result<Tests, JobE
     }
 }
 
-/// The report of the answer over rows that are not refused.
+/// The report of the answer, or the refusal of a job that is too large.
 fn answer_report<R: Threads + Sync, G: Gate + Sync>(
-    rt: &R,
-    alloc: Global,
-    crew: Crew,
-    gate: &G,
-    checked: &Checked,
-    rows: &Rows,
-    tests: &Tests,
-) -> Result<Vec<u8>, AllocError>
-    requires crew { IsCrew crew }
-    requires columns { HasColumnsOf checked.now (plain_rows rows.now) }
-    requires few { rows.now.count ≤ ROW_LIMIT }
-    requires light { first_heavy checked.now (plain_rows rows.now) ≡ None }
-    requires prepared { ArePrepared checked.now (plain_rows rows.now) tests.now }
-    ensures { IfOk result (λ text.
-        text.items ≡ report_text (answers.answer checked.now (plain_rows rows.now)) checked.now.labels) }
+    crew: &Crew<R, G>,
+    prepared: &PreparedJob,
+) -> Result<Vec<u8>, JobEnd>
+    ensures passes { let job = prepared.now.job in
+        Passes (size_refusal crew.now.leaf job.checked (plain_rows job.rows)) result }
+    ensures text { let job = prepared.now.job in
+        IfOk result (λ text.
+        text.items ≡ report_text (answers.answer job.checked (plain_rows job.rows)) job.checked.labels) }
 {
-    let answer = answer_of(rt, alloc, crew, gate, checked, rows, tests)?;
-    report(alloc, &answer, checked.labels())
+    let answer = answer_of(crew, prepared)?;
+    Ok(report(crew.alloc, &answer, prepared.job.checked.labels())?)
 }
 
-/// The answer by the aggregate.
+/// The answer to the question that the aggregate asks, or the refusal of a job that is too large.
 fn answer_of<R: Threads + Sync, G: Gate + Sync>(
-    rt: &R,
-    alloc: Global,
-    crew: Crew,
-    gate: &G,
-    checked: &Checked,
-    rows: &Rows,
-    tests: &Tests,
-) -> Result<Answer, AllocError>
-    requires crew { IsCrew crew }
-    requires columns { HasColumnsOf checked.now (plain_rows rows.now) }
-    requires few { rows.now.count ≤ ROW_LIMIT }
-    requires light { first_heavy checked.now (plain_rows rows.now) ≡ None }
-    requires prepared { ArePrepared checked.now (plain_rows rows.now) tests.now }
-    ensures { IfOk result (λ answer. answer ≡ answers.answer checked.now (plain_rows rows.now)) }
+    crew: &Crew<R, G>,
+    prepared: &PreparedJob,
+) -> Result<Answer, JobEnd>
+    ensures passes { let job = prepared.now.job in
+        Passes (size_refusal crew.now.leaf job.checked (plain_rows job.rows)) result }
+    ensures answer { let job = prepared.now.job in
+        IfOk result (λ answer. answer ≡ answers.answer job.checked (plain_rows job.rows)) }
 {
-    match *checked.goal() {
-        Goal::Count => Ok(Answer::Count(count_of_kept(
-            rt, alloc, crew, gate, checked, rows, tests,
-        )?)),
-        Goal::Any => Ok(Answer::Any(any_kept(rt, alloc, crew, gate, checked, rows, tests)?)),
-        Goal::Max(_) => Ok(Answer::Total(greatest_kept(
-            rt, alloc, crew, gate, checked, rows, tests,
-        )?)),
-        Goal::Min(_) => Ok(Answer::Total(least_kept(rt, alloc, crew, gate, checked, rows, tests)?)),
-        Goal::Best { k, greatest, .. } => {
-            let entries = best_kept(rt, alloc, crew, gate, checked, rows, tests, k, greatest)?;
-            Ok(Answer::Best(entries))
+    match *prepared.job.checked.goal() {
+        Goal::Count => Ok(Answer::Count(lane_asked(crew, prepared, &HowMany)?)),
+        Goal::Any => Ok(Answer::Any(lane_asked(crew, prepared, &Whether)?)),
+        Goal::Max(measure) => {
+            let total = lane_asked(crew, prepared, &GreatestOf { measure })?;
+            Ok(Answer::Total(total))
+        }
+        Goal::Min(measure) => {
+            let total = lane_asked(crew, prepared, &LeastOf { measure })?;
+            Ok(Answer::Total(total))
+        }
+        Goal::Best {
+            k,
+            greatest,
+            measure,
+        } => {
+            let question = BestOf {
+                k,
+                greatest,
+                measure,
+            };
+            Ok(Answer::Best(asked(crew, prepared, &question)?))
         }
     }
+}
+
+/// The answer to the question that the aggregate asks, by lists of keys; or the refusal of a job that is too large.
+fn asked<R: Threads + Sync, G: Gate + Sync, Q: Question>(
+    crew: &Crew<R, G>,
+    prepared: &PreparedJob,
+    question: &Q,
+) -> Result<Q::Answer, JobEnd>
+    requires asked { prepared.now.job.checked.goal ≡ Q.goal question.now }
+    ensures passes { let job = prepared.now.job in
+        Passes (size_refusal crew.now.leaf job.checked (plain_rows job.rows)) result }
+    ensures answer { let job = prepared.now.job in
+        IfOk result (λ answer. answer ≡ Q.plain_answer question.now job.checked (plain_rows job.rows)) }
+{
+    refuse_size(crew.leaf, prepared, question)?;
+    Ok(answer_to(crew, prepared, question)?)
+}
+
+/// The same, over rows of lanes where there are many keys.
+fn lane_asked<R: Threads + Sync, G: Gate + Sync, Q: Question>(
+    crew: &Crew<R, G>,
+    prepared: &PreparedJob,
+    question: &Q,
+) -> Result<Q::Answer, JobEnd>
+where
+    Q::Kit: Lanes,
+    requires asked { prepared.now.job.checked.goal ≡ Q.goal question.now }
+    ensures passes { let job = prepared.now.job in
+        Passes (size_refusal crew.now.leaf job.checked (plain_rows job.rows)) result }
+    ensures answer { let job = prepared.now.job in
+        IfOk result (λ answer. answer ≡ Q.plain_answer question.now job.checked (plain_rows job.rows)) }
+{
+    refuse_size(crew.leaf, prepared, question)?;
+    Ok(lane_answer_to(crew, prepared, question)?)
 }

@@ -8,8 +8,8 @@ use Rattle.fuse_answer.proofs.dense.dense_sum_by_keys.Goals as goal
 
 pub returns : goal.returns
 returns g c =
-    let checked = c.args.checked.now in
-    let rows = plain_rows c.args.rows.now in
+    let checked = c.args.prepared.now.job.checked in
+    let rows = plain_rows c.args.prepared.now.job.rows in
     let semiring = c.args.kit.kit in
     let monoid = c.args.kit.keys in
     let of_mark = g.S.Semiring.of_mark semiring in

@@ -8,6 +8,7 @@ use Rattle.fuse_answer.proofs.letters.letters_of.Given as goal
 
 abbrev pub invariant-loop-place : goal.invariant-loop-place
 invariant-loop-place g l =
-    let letter = letter_at (g.S.Semiring.of_mark l.kit) (goal_weight l.checked (plain_rows l.rows)) l.keys
-    (label_count l.checked) in
+    let checked = l.prepared.job.checked in
+    let weight = goal_weight checked (plain_rows l.prepared.job.rows) in
+    let letter = letter_at (g.S.Semiring.of_mark l.kit) weight l.keys (label_count checked) in
     l.letters.items ≡ map letter (range_with_len 0 l.place)

@@ -5,5 +5,5 @@ use Rattle.fuse_answer.proofs.sum.accepted_sum.Goals as goal
 
 pub solve-requires-clause-leaves : goal.solve-requires-clause-leaves
 solve-requires-clause-leaves g c κs within =
-    let few = even_cut-few c.rows.result c.args.crew.leaf c.requires.crew.some_rows in
+    let few = even_cut-few c.rows.result c.args.crew.now.leaf c.args.crew.now.some_rows in
     rw (c.in_ok-cut.ensures.bounds) (omega (arith, few, c.rows.ensures, c.requires.few))

@@ -14,10 +14,11 @@ use Rattle.fuse_answer.proofs.sum.plan_by_keys.Goals as goal
 
 pub plan_of-requires-clause-count : goal.plan_of-requires-clause-count
 plan_of-requires-clause-count g c κs within =
-    let rows = plain_rows c.args.rows.now in
-    let labels = label_count c.args.checked.now in
-    let letter = letter_at (g.K.Kit.Semiring.of_mark (g.K.MapKit.kit c.args.kit)) (goal_weight c.args.checked.now rows) c.args.keys.now
-    labels in
+    let checked = c.args.prepared.now.job.checked in
+    let rows = plain_rows c.args.prepared.now.job.rows in
+    let labels = label_count checked in
+    let of_mark = g.K.Kit.Semiring.of_mark (g.K.MapKit.kit c.args.kit) in
+    let letter = letter_at of_mark (goal_weight checked rows) c.args.keys.now labels in
     ap length (rw (c.kit.ensures) at c.in_ok-letters.ensures)
     ∙ length-map-range_with_len letter 0 (rows.count * labels)
     ∙ ap (λ n. rows.count * n) (sym c.label_count-labels.ensures)
@@ -25,28 +26,30 @@ plan_of-requires-clause-count g c κs within =
 pub plan_of-requires-clause-keys_are_elements :
     goal.plan_of-requires-clause-keys_are_elements
 plan_of-requires-clause-keys_are_elements g c κs within =
-    let rows = plain_rows c.args.rows.now in
+    let checked = c.args.prepared.now.job.checked in
+    let rows = plain_rows c.args.prepared.now.job.rows in
+    let of_mark = g.K.Kit.Semiring.of_mark (g.K.MapKit.kit c.args.kit) in
     let size = g.K.Keys.Monoid.size (g.K.MapKit.keys c.args.kit) in
     subst (AllElements (λ key. key < size) (λ letter. letter.key)) (sym (rw (c.kit.ensures) at c.in_ok-letters.ensures))
-    (keys-are_elements (g.K.Kit.Semiring.of_mark (g.K.MapKit.kit c.args.kit)) (goal_weight c.args.checked.now rows) c.args.keys.now
-    rows.count (label_count c.args.checked.now) size c.requires.count c.requires.keys_are_elements)
+    (keys-are_elements of_mark (goal_weight checked rows) c.args.keys.now rows.count (label_count checked) size
+    c.requires.count c.requires.keys_are_elements)
 
 pub plan_of-requires-clause-elems_are_good : goal.plan_of-requires-clause-elems_are_good
 plan_of-requires-clause-elems_are_good g c κs within =
-    let checked = c.args.checked.now in
-    let rows = plain_rows c.args.rows.now in
+    let checked = c.args.prepared.now.job.checked in
+    let rows = plain_rows c.args.prepared.now.job.rows in
     let r = g.K.Kit.Semiring.ring (g.K.MapKit.kit c.args.kit) in
     subst (AllElements (IsGood r) (λ letter. letter.elem)) (sym (rw (c.kit.ensures) at c.in_ok-letters.ensures))
     (elems-good r (g.K.Kit.Semiring.of_mark (g.K.MapKit.kit c.args.kit))
     (g.met.K.Kit.Semiring.mark_is_sound (g.K.MapKit.kit c.args.kit))
     (g.met.K.Kit.Semiring.mark_reach (g.K.MapKit.kit c.args.kit))
     (goal_weight checked rows) (row_bound checked rows (goal_measure checked.goal)) c.args.keys.now rows.count
-    (label_count checked) (weights-light checked rows (goal_measure checked.goal) c.requires.light))
+    (label_count checked) (weights-light checked rows (goal_measure checked.goal) c.args.prepared.now.light))
 
 pub plan_of-requires-clause-reaches_add_up : goal.plan_of-requires-clause-reaches_add_up
 plan_of-requires-clause-reaches_add_up g c κs within =
-    let checked = c.args.checked.now in
-    let rows = plain_rows c.args.rows.now in
+    let checked = c.args.prepared.now.job.checked in
+    let rows = plain_rows c.args.prepared.now.job.rows in
     let r = g.K.Kit.Semiring.ring (g.K.MapKit.kit c.args.kit) in
     subst (λ n. rows_reach r n c.in_ok-letters.letters.items 0 rows.count ≤ weight_bound)
     (sym c.label_count-labels.ensures)
@@ -56,4 +59,4 @@ plan_of-requires-clause-reaches_add_up g c κs within =
     (g.met.K.Kit.Semiring.mark_is_sound (g.K.MapKit.kit c.args.kit))
     (g.met.K.Kit.Semiring.mark_reach (g.K.MapKit.kit c.args.kit))
     (goal_weight checked rows) (row_bound checked rows (goal_measure checked.goal)) c.args.keys.now rows.count
-    (label_count checked) (weights-light checked rows (goal_measure checked.goal) c.requires.light)))
+    (label_count checked) (weights-light checked rows (goal_measure checked.goal) c.args.prepared.now.light)))

@@ -9,8 +9,8 @@ use Rattle.gta_job.proofs.listing.rows_list.Goals as goal
 
 pub list_report-requires : goal.list_report-requires
 list_report-requires c =
-    let checked = c.args.checked.now in
-    let rows = plain_rows c.args.rows.now in
+    let checked = c.args.job.now.checked in
+    let rows = plain_rows c.args.job.now.rows in
     let labels : c.deref.result.now ≡ checked.labels = search rules in
     let list : marks_of c.as_slice.result.now ≡ kept checked rows =
     ap marks_of c.as_slice.ensures.value ∙ c.in_ok-list.ensures.kept in

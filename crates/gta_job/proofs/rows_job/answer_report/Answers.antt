@@ -1,7 +1,7 @@
 -- What the report asks for: the marks of a best answer have their labels.
-use Rattle.std.proofs.Common.{rules, ◌≡◌, sym, subst}
+use Rattle.std.proofs.Common.{rules}
 use Rattle.report_text.specs.Texts.{IsLabelled}
-use Rattle.gta_checked.specs.PlainRows.{PlainRows, plain_rows}
+use Rattle.gta_checked.specs.PlainRows.{PlainRows}
 use Rattle.gta_checked.specs.Plain.{PlainChecked}
 use Rattle.gta_checked.specs.declared.resolved.Goal.{Goal}
 use Rattle.gta_checked.specs.declared.resolved.Goal.TheVariants.{Count, Any, Max, Min, Best}

@@ -1,0 +1,53 @@
+//! The greatest total.
+
+use crate::question::Question;
+use semiring_kit::MaxPlus;
+use std::alloc::{AllocError, Global};
+
+/// The greatest total of a measure over the candidates that pass, or None where none passes.
+#[derive(Clone, Copy, Drop)]
+pub struct GreatestOf {
+    pub measure: u32,
+}
+
+impl Question for GreatestOf {
+    ghost use Rattle.std.specs.Prelude.{◌≡◌, Some, refl};
+    ghost use Rattle.gta_checked.specs.declared.resolved.Goal.TheVariants.{Max};
+    ghost use Rattle.gta_meaning.specs.Answers.{greatest};
+    ghost use Rattle.gta_meaning.specs.Heavy.{goal_measure};
+    ghost use Rattle.fuse_answer.specs.GreatestLaw.{sum-is_greatest};
+
+    type Kit = MaxPlus;
+
+    type Answer = Option<i64>;
+
+    ghost goal = { λ question. Max question.measure };
+
+    ghost is_weighed = { λ question goal. goal_measure goal ≡ Some question.measure };
+
+    ghost kit = { λ question. record {} };
+
+    ghost answer_of = { λ question sum. sum };
+
+    ghost plain_answer = { λ question checked rows. greatest checked rows question.measure };
+
+    ghost sum_answers = { λ question. sum-is_greatest question.measure };
+
+    ghost own_is_weighed = { λ question. refl };
+
+    fn kit(&self) -> MaxPlus {
+        MaxPlus
+    }
+
+    fn kept_a_key(&self) -> u32 {
+        1
+    }
+
+    fn pieces_by(&self, leaf: u32, rows: u32) -> u32 {
+        rows.div_ceil(leaf)
+    }
+
+    fn answer_of(&self, _alloc: Global, sum: Option<i64>) -> Result<Option<i64>, AllocError> {
+        Ok(sum)
+    }
+}

@@ -1,0 +1,53 @@
+//! The least total.
+
+use crate::question::Question;
+use semiring_kit::MinPlus;
+use std::alloc::{AllocError, Global};
+
+/// The least total of a measure over the candidates that pass, or None where none passes.
+#[derive(Clone, Copy, Drop)]
+pub struct LeastOf {
+    pub measure: u32,
+}
+
+impl Question for LeastOf {
+    ghost use Rattle.std.specs.Prelude.{◌≡◌, Some, refl};
+    ghost use Rattle.gta_checked.specs.declared.resolved.Goal.TheVariants.{Min};
+    ghost use Rattle.gta_meaning.specs.Answers.{least};
+    ghost use Rattle.gta_meaning.specs.Heavy.{goal_measure};
+    ghost use Rattle.fuse_answer.specs.LeastLaw.{sum-is_least};
+
+    type Kit = MinPlus;
+
+    type Answer = Option<i64>;
+
+    ghost goal = { λ question. Min question.measure };
+
+    ghost is_weighed = { λ question goal. goal_measure goal ≡ Some question.measure };
+
+    ghost kit = { λ question. record {} };
+
+    ghost answer_of = { λ question sum. sum };
+
+    ghost plain_answer = { λ question checked rows. least checked rows question.measure };
+
+    ghost sum_answers = { λ question. sum-is_least question.measure };
+
+    ghost own_is_weighed = { λ question. refl };
+
+    fn kit(&self) -> MinPlus {
+        MinPlus
+    }
+
+    fn kept_a_key(&self) -> u32 {
+        1
+    }
+
+    fn pieces_by(&self, leaf: u32, rows: u32) -> u32 {
+        rows.div_ceil(leaf)
+    }
+
+    fn answer_of(&self, _alloc: Global, sum: Option<i64>) -> Result<Option<i64>, AllocError> {
+        Ok(sum)
+    }
+}
