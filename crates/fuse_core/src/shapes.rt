@@ -36,7 +36,7 @@ fn whole_wires(alloc: Global, shape: Shape, labels: u32) -> Result<Wires, AllocE
     Ok(Wires {
         has_empty: true,
         sources: vec![in alloc; Source::Across(0, 0)]?,
-        keeps: matches!(shape, Shape::Sublists),
+        keeps: false,
         growths: whole_growths(alloc, shape, labels)?,
     })
 }
@@ -46,6 +46,7 @@ fn whole_growths(alloc: Global, shape: Shape, labels: u32) -> Result<Vec<Growth>
     ensures { IfOk result (λ made. made.items ≡ whole_growths shape labels) }
 {
     match shape {
+        Shape::Sublists => Ok(vec![in alloc; Growth::Kept(0), Growth::Before(0, 0)]?),
         Shape::Assign => labelled(alloc, labels),
         _ => Ok(vec![in alloc; Growth::Before(0, 0)]?),
     }

@@ -15,6 +15,8 @@ pub(crate) enum Source {
 /// Lists that a row brings to a component of the rows after it.
 #[derive(Drop)]
 pub(crate) enum Growth {
+    /// Those of a component of the later rows, without the row.
+    Kept(usize),
     /// The row alone, with this label.
     Alone(u32),
     /// The row with this label before each list of a component of the later rows.
