@@ -9,14 +9,15 @@ use Rattle.monoid_kit.specs.Items.{IsIn}
 use Rattle.shape_gen.specs.declared.mark.Mark.{Mark}
 use Rattle.shape_gen.specs.declared.shape.Shape.{Shape}
 use Rattle.shape_gen.specs.declared.shape.Shape.TheVariants.{Sublists, Assign, Prefixes, Suffixes, Segments}
-use Rattle.shape_gen.specs.Candidates.{mark, run, sublists, assignments, prefixes, suffixes, segments}
+use Rattle.shape_gen.specs.Candidates.{mark, run, sublists, assignments, prefixes, suffixes, segments, candidates}
 use Rattle.shape_gen.specs.Parts.{Component, Whole, Pre, Suf, Seg, components, part}
+use Rattle.shape_gen.proofs.Parts.{candidates-sublists, candidates-assign, candidates-prefixes, candidates-suffixes, candidates-segments}
 use Rattle.shape_gen.proofs.Parts.{whole-parts, pre-parts, suf-parts, seg-parts, whole-none, pre-none, suf-none, seg-none}
 use Rattle.fuse_core.specs.declared.wiring.Growth.{Growth}
 use Rattle.fuse_core.specs.declared.wiring.Growth.TheVariants.{Before}
 use Rattle.fuse_core.specs.declared.wiring.Source.{Source}
 use Rattle.fuse_core.specs.declared.wiring.Wires.{Wires}
-use Rattle.fuse_core.specs.Wirings.{WiresOn, wires_on, source_lists, growth_lists, kept_lists, shifts, all_crossings, all_shifts, SourceWithin, GrowthWithin, wires, wiring}
+use Rattle.fuse_core.specs.Wirings.{WiresOn, wires_on, source_lists, growth_lists, kept_lists, shifts, all_crossings, all_shifts, SourceWithin, GrowthWithin, wires, wiring, ending, with_empty}
 use Rattle.fuse_core.specs.Places.{StandsAt, ShowEach, ShowGrown, ShowNoRow, ShowJoined, Brings, WiresGrow, WiresJoin}
 use Rattle.fuse_core.proofs.Picks.{in-map, in-range}
 
@@ -133,6 +134,24 @@ shape-none shape labels lo place =
       | Suf ↦ suf-none shape labels lo
       | Seg ↦ seg-none shape labels lo
     ]
+
+-- at the end
+
+pub ending-within : (shape : Shape) → (ending shape).place < length (components shape)
+ending-within Sublists = omega arith
+ending-within Assign = omega arith
+ending-within Prefixes = omega arith
+ending-within Suffixes = omega arith
+ending-within Segments = omega arith
+
+-- the candidates are the lists of the component that the ending names, with the empty one where it is added
+pub shape-ends : (shape : Shape) (rows labels : ℕ)
+    → candidates shape rows labels ≡ with_empty (ending shape).adds_empty (lists_at shape labels 0 rows (ending shape).place)
+shape-ends Sublists rows labels = candidates-sublists rows labels
+shape-ends Assign rows labels = candidates-assign rows labels
+shape-ends Prefixes rows labels = candidates-prefixes rows labels
+shape-ends Suffixes rows labels = candidates-suffixes rows labels
+shape-ends Segments rows labels = candidates-segments rows labels
 
 -- two halves together
 

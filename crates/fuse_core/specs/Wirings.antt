@@ -12,6 +12,7 @@ use Rattle.fuse_core.specs.declared.wiring.Source.TheVariants.{Left, Right, Acro
 use Rattle.fuse_core.specs.declared.wiring.Growth.{Growth}
 use Rattle.fuse_core.specs.declared.wiring.Growth.TheVariants.{Kept, Alone, Before, Same}
 use Rattle.fuse_core.specs.declared.wiring.Wires.{Wires}
+use Rattle.fuse_core.specs.declared.wiring.Ending.{Ending}
 
 -- how one component comes about
 pub record WiresOn : Type 0 where
@@ -147,3 +148,17 @@ wires shape labels Seg = segment_wires
 
 abbrev pub wiring : Shape → ℕ → List WiresOn
 wiring shape labels = map (wires shape labels) (components shape)
+
+-- the end
+
+-- where a shape's candidates are once all rows are joined: whole lists, or else nonempty ones, and the empty one besides
+abbrev pub ending : Shape → Ending
+ending Sublists = record { place = 0; adds_empty = false }
+ending Assign = record { place = 0; adds_empty = false }
+ending Prefixes = record { place = 1; adds_empty = true }
+ending Suffixes = record { place = 1; adds_empty = true }
+ending Segments = record { place = 3; adds_empty = true }
+
+-- the lists, with the empty one before them where it is added
+abbrev pub with_empty : Bool → List (List Mark) → List (List Mark)
+with_empty adds lists = if adds then [] ∷ lists else lists

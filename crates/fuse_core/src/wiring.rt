@@ -25,6 +25,15 @@ pub(crate) enum Growth {
     Same(usize),
 }
 
+/// Where a shape's candidates are, once all rows are joined.
+#[derive(Drop)]
+pub(crate) struct Ending {
+    /// The place of the component whose lists are the candidates.
+    pub(crate) place: usize,
+    /// The empty candidate isn't among them, and comes before.
+    pub(crate) adds_empty: bool,
+}
+
 /// How one component comes about.
 #[derive(Drop)]
 pub(crate) struct Wires {
