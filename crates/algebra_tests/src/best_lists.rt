@@ -1,6 +1,7 @@
 //! Worked sums and products, through the trait. The functions that make them serve lists of any entries.
 
 ghost use Rattle.std.specs.Prelude.{◌≡◌, ◌<◌, IfOk};
+ghost use Rattle.step_count.specs.Blanks.{IsBlankOf};
 ghost use Rattle.semiring_kit.specs.Semiring.{IsGood};
 
 use best_k::{Best, BestK};
@@ -47,9 +48,7 @@ pub(crate) fn sum_of_candidates<S: Semiring, L: Ledger>(
     candidates: &[&[(u32, i32)]],
     blank: Blank,
 ) -> Result<S::Elem, AllocError>
-    requires same_name { blank.name ≡ L.name }
-    requires same_parts { blank.parts ≡ L.parts }
-    requires some_part { 0 < blank.parts }
+    requires blank { IsBlankOf L.name L.parts blank }
 {
     let mut steps = Steps::<L>::new(blank);
     let mut sum = kit.zero(alloc)?;
@@ -67,9 +66,7 @@ pub(crate) fn sublists<S: Semiring, L: Ledger>(
     weights: &[i32],
     blank: Blank,
 ) -> Result<S::Elem, AllocError>
-    requires same_name { blank.name ≡ L.name }
-    requires same_parts { blank.parts ≡ L.parts }
-    requires some_part { 0 < blank.parts }
+    requires blank { IsBlankOf L.name L.parts blank }
 {
     let mut steps = Steps::<L>::new(blank);
     let mut product = kit.one(alloc)?;

@@ -1,6 +1,7 @@
 //! Rows of lanes: the kernels at each length, worked convolutions, and the runs by which keys move rows.
 
 ghost use Rattle.std.specs.Prelude.{◌≡◌, ◌≢◌, ◌+◌, ◌<◌, ◌≤◌, All, IsTrue, length, unsigned_abs};
+ghost use Rattle.step_count.specs.Blanks.{IsBlankOf};
 ghost use Rattle.semiring_kit.specs.Semiring.{IsGood, weight_bound};
 ghost use Rattle.lane_rows.specs.MaxLanes.{absent, IsWithin};
 ghost use Rattle.lane_rows.specs.TruthLanes.{IsBit};
@@ -183,9 +184,7 @@ fn convolved<L: Ledger>(
     b: &[i64],
     blank: Blank,
 ) -> Result<Option<Vec<i64>>, AllocError>
-    requires same_name { blank.name ≡ L.name }
-    requires same_parts { blank.parts ≡ L.parts }
-    requires some_part { 0 < blank.parts }
+    requires blank { IsBlankOf L.name L.parts blank }
 {
     if !is_small(a) || !is_small(b) {
         return Ok(None);
@@ -228,9 +227,7 @@ fn doubled<K: MapKit, L: Ledger>(
     requires elem_is_good { IsGood (K.Kit.ring (K.kit kit.now)) elem }
     requires reaches_add_up { let reach = (K.Kit.ring (K.kit kit.now)).reach in
         reach elem + reach elem ≤ weight_bound }
-    requires same_name { blank.name ≡ L.name }
-    requires same_parts { blank.parts ≡ L.parts }
-    requires some_part { 0 < blank.parts }
+    requires blank { IsBlankOf L.name L.parts blank }
 {
     let mut steps = Steps::<L>::new(blank);
     let single = kit.single(alloc, key, kit.kit().copy(alloc, &elem)?)?;

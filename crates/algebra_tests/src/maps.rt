@@ -1,6 +1,7 @@
 //! Worked sums and convolutions, through the trait, over a monoid in which factors may not change places.
 
 ghost use Rattle.std.specs.Prelude.{◌≡◌, ℕ, ◌+◌, ◌<◌, ◌≤◌, IfOk};
+ghost use Rattle.step_count.specs.Blanks.{IsBlankOf};
 ghost use Rattle.semiring_kit.specs.Semiring.{IsGood};
 ghost use Rattle.semiring_kit.specs.MaxPlus.{max_plus};
 ghost use Rattle.key_map.specs.Maps.{ReachesAddUp};
@@ -81,9 +82,7 @@ fn convolved<K: MapKit, L: Ledger>(
     requires reaches_add_up { ReachesAddUp
         (K.Kit.ring (K.kit kit.now)) (K.value_at kit.now a.now) (K.value_at kit.now b.now) }
     requires key_is_element { key < K.Keys.size (K.keys kit.now) }
-    requires same_name { blank.name ≡ L.name }
-    requires same_parts { blank.parts ≡ L.parts }
-    requires some_part { 0 < blank.parts }
+    requires blank { IsBlankOf L.name L.parts blank }
 {
     let mut steps = Steps::<L>::new(blank);
     let map = kit.convolve(alloc, a, b, &mut steps)?;

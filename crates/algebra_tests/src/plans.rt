@@ -2,6 +2,7 @@
 //! factors may not change places.
 
 ghost use Rattle.std.specs.Prelude.{◌≡◌, ◌⊎◌, ℕ, ◌+◌, ◌*◌, ◌<◌, ◌≤◌, length, IfOk};
+ghost use Rattle.step_count.specs.Blanks.{IsBlankOf};
 ghost use Rattle.monoid_kit.specs.Items.{AllElements};
 ghost use Rattle.semiring_kit.specs.Semiring.{IsGood};
 ghost use Rattle.shape_gen.specs.declared.shape.Shape.TheVariants.{Assign};
@@ -116,9 +117,7 @@ fn sums<K: MapKit, L: Ledger>(
     requires ordered { first ≤ second }
     requires within { second ≤ plan.now.rows }
     requires one_a_key { length accept.now ≡ K.Keys.size (K.keys plan.now.kit) }
-    requires same_name { blank.name ≡ L.name }
-    requires same_parts { blank.parts ≡ L.parts }
-    requires some_part { 0 < blank.parts }
+    requires blank { IsBlankOf L.name L.parts blank }
 {
     let mut steps = Steps::<L>::new(blank);
     let rows = plan.rows();

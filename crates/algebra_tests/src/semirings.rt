@@ -1,6 +1,7 @@
 //! Worked sums and products, through the trait.
 
 ghost use Rattle.std.specs.Prelude.{◌≡◌, ◌+◌, ◌<◌, ◌≤◌};
+ghost use Rattle.step_count.specs.Blanks.{IsBlankOf};
 ghost use Rattle.semiring_kit.specs.MaxPlus.{max_plus};
 ghost use Rattle.semiring_kit.specs.Semiring.{IsGood, weight_bound};
 
@@ -34,9 +35,7 @@ fn combined<S: Semiring, L: Ledger>(
     requires right_is_good { IsGood (S.ring kit.now) right.now }
     requires reaches_add_up { let reach = (S.ring kit.now).reach in
         reach left.now + reach right.now ≤ weight_bound }
-    requires same_name { blank.name ≡ L.name }
-    requires same_parts { blank.parts ≡ L.parts }
-    requires some_part { 0 < blank.parts }
+    requires blank { IsBlankOf L.name L.parts blank }
 {
     let mut steps = Steps::<L>::new(blank);
     Ok((

@@ -1,15 +1,14 @@
 //! A caller that counts nothing can make a counter and tick it.
 
 ghost use Rattle.std.specs.Prelude.{◌≡◌, ◌<◌};
+ghost use Rattle.step_count.specs.Blanks.{IsBlankOf};
 
 use std::marker::Brand;
 use std::sync::ledger::{Blank, Ledger};
 use step_count::Steps;
 
 fn count_two<L: Ledger>(blank: Blank) -> u32
-    requires same_name { blank.name ≡ L.name }
-    requires same_parts { blank.parts ≡ L.parts }
-    requires some_part { 0 < blank.parts }
+    requires blank { IsBlankOf L.name L.parts blank }
 {
     let mut steps = Steps::<L>::new(blank);
     steps.tick();

@@ -2,6 +2,7 @@
 //! What sends values to threads names its maps, so that the calls of sum.rt stand here once more.
 
 ghost use Rattle.std.specs.Prelude.{◌≡◌, ◌<◌, ◌≤◌, IfOk, length};
+ghost use Rattle.step_count.specs.Blanks.{IsBlankOf};
 ghost use Rattle.semiring_kit.specs.Aggregates.{sum_over};
 ghost use Rattle.shape_gen.specs.Candidates.{candidates};
 ghost use Rattle.fuse_core.specs.Letters.{key_of, weight_of};
@@ -86,9 +87,7 @@ fn dense_accepted_sum<
 ) -> Result<S::Elem, AllocError>
     requires few { plan.now.rows ≤ ROW_LIMIT }
     requires one_a_key { length accept.now ≡ M.size plan.now.kit.keys }
-    requires same_name { blank.name ≡ L.name }
-    requires same_parts { blank.parts ≡ L.parts }
-    requires some_part { 0 < blank.parts }
+    requires blank { IsBlankOf L.name L.parts blank }
     ensures { let ring = S.ring plan.now.kit.kit in
         let monoid = plan.now.kit.keys in
         let key = key_of (M.unit monoid) (M.mul monoid) plan.now.labels plan.now.letters in

@@ -1,5 +1,5 @@
 -- The sum over the accepted keys of what a map shows is the sum over the accepted candidates.
-use Rattle.std.proofs.Common.{◌≡◌, refl, sym, ap, ◌∙◌, subst, ℕ, ◌+◌, Bool, ◌⊎◌, inl, inr, List, [], ◌∷◌, slice_index_or, arith}
+use Rattle.std.proofs.Common.{◌≡◌, refl, sym, ap, ◌∙◌, subst, ℕ, ◌+◌, ◌<◌, Bool, true, false, List, [], ◌∷◌, length, slice_index_or, arith}
 use Rattle.std.specs.List.{range_with_len}
 use Rattle.monoid_kit.specs.Monoid.{IsMonoid}
 use Rattle.monoid_kit.proofs.Products.{product_by-same, product_by-append, product_by-filter}
@@ -9,18 +9,16 @@ use Rattle.semiring_kit.specs.Total.{total, masked, total_at_key}
 use Rattle.semiring_kit.proofs.Sums.{masked-IsAdditive, add_is_good, masked_is_good}
 use Rattle.shape_gen.specs.declared.mark.Mark.{Mark}
 use Rattle.shape_gen.specs.declared.shape.Shape.{Shape}
-use Rattle.shape_gen.specs.declared.shape.Shape.TheVariants.{Sublists, Assign, Prefixes, Suffixes, Segments}
 use Rattle.shape_gen.specs.Candidates.{candidates}
-use Rattle.shape_gen.specs.Parts.{Component, Whole, Pre, Suf, Seg, components, part}
 use Rattle.shape_gen.proofs.Lists.{range-append}
-use Rattle.shape_gen.proofs.Parts.{candidates-sublists, candidates-assign, candidates-prefixes, candidates-suffixes, candidates-segments}
 use Rattle.fuse_core.specs.declared.letter.Letter.{Letter}
 use Rattle.fuse_core.specs.Letters.{key_of, weight_of, HasLetters}
 use Rattle.fuse_core.specs.Stands.{Shows, Stands}
 use Rattle.fuse_core.specs.Plans.{accepts, accepted_sum}
-use Rattle.fuse_core.specs.Components.{IsAt}
+use Rattle.fuse_core.specs.Wirings.{ending, with_empty}
 use Rattle.fuse_core.proofs.Weighs.{weighs}
-use Rattle.fuse_core.proofs.Reading.{each-at, whole-first}
+use Rattle.fuse_core.proofs.Planned.{stands-count, stands-places}
+use Rattle.fuse_core.proofs.Wired.{lists_at, ending-within, shape-ends}
 
 -- sums over keys, a key more at the end
 
@@ -91,48 +89,32 @@ module _ {E M : Type 0} {r : SemiringOn E} (laws : IsSemiring r) {size unit : �
       added ∙ ap (r.add (masked r (accepts accept unit) r.one)) (is ∙ accepted_sum-masked lists)
       ∙ sym (accepted_sum-masked ([] ∷ lists))
 
-  module _ (maps : List M) (stands : Stands r (key_of unit times labels letters) (weight_of r labels letters) fits value_at shape labels 0 rows maps) where
-    shown-at : (i : ℕ) (j : Component) (x : M) → IsAt (components shape) i j → x ≡ slice_index_or maps i x
-        → Shows r (key_of unit times labels letters) (weight_of r labels letters) fits value_at (part shape labels j 0 rows) x
-    shown-at i j x at is =
-        each-at (λ j map. Shows r (key_of unit times labels letters) (weight_of r labels letters) fits value_at (part shape labels j 0 rows) map)
-        (components shape) maps i j x stands at is
+  -- from the map that holds a shape's candidates
+  module _ (maps : List M) (stands : Stands r (key_of unit times labels letters) (weight_of r labels letters) fits value_at shape labels 0 rows maps)
+      (x : M) (is : x ≡ slice_index_or maps (ending shape).place x) (sum : E)
+      (total_is : sum ≡ total r (λ k. masked r (accepts accept k) (value_at x k)) (range_with_len 0 size)) where
+    sum-is : sum ≡ accepted_sum r (key_of unit times labels letters) (weight_of r labels letters) accept (lists_at shape labels 0 rows (ending shape).place)
+    sum-is =
+        let count = stands-count laws monoid fits value_at shape rows labels letters has maps 0 rows stands in
+        let there = ending-within shape in
+        let within : (ending shape).place < length maps = omega (arith, count, there) in
+        total_is ∙ keys-total (lists_at shape labels 0 rows (ending shape).place) x
+        (stands-places laws monoid fits value_at shape rows labels letters has maps 0 rows stands (ending shape).place x
+        (record { within = within; is = is }))
 
-    pub finish-one : (shape ≡ Sublists) ⊎ (shape ≡ Assign) → (x : M) → x ≡ slice_index_or maps 0 x → (sum : E)
-        → sum ≡ total r (λ k. masked r (accepts accept k) (value_at x k)) (range_with_len 0 size)
+    all-is : (adds : Bool) → (ending shape).adds_empty ≡ adds
+        → accepted_sum r (key_of unit times labels letters) (weight_of r labels letters) accept (candidates shape rows labels)
+        ≡ accepted_sum r (key_of unit times labels letters) (weight_of r labels letters) accept
+        (with_empty adds (lists_at shape labels 0 rows (ending shape).place))
+    all-is adds same =
+        ap (accepted_sum r (key_of unit times labels letters) (weight_of r labels letters) accept)
+        (shape-ends shape rows labels ∙ ap (λ b. with_empty b (lists_at shape labels 0 rows (ending shape).place)) same)
+
+    pub finish-as_it_is : (ending shape).adds_empty ≡ false
         → sum ≡ accepted_sum r (key_of unit times labels letters) (weight_of r labels letters) accept (candidates shape rows labels)
-    finish-one one x is sum total_is =
-        total_is ∙ keys-total (part shape labels Whole 0 rows) x (shown-at 0 Whole x (whole-first shape) is)
-        ∙ ap (accepted_sum r (key_of unit times labels letters) (weight_of r labels letters) accept) (sym (all one))
-      where
-        all : (shape ≡ Sublists) ⊎ (shape ≡ Assign) → candidates shape rows labels ≡ part shape labels Whole 0 rows
-        all (inl e) = subst (λ s. candidates s rows labels ≡ part s labels Whole 0 rows) (sym e) (candidates-sublists rows labels)
-        all (inr e) = subst (λ s. candidates s rows labels ≡ part s labels Whole 0 rows) (sym e) (candidates-assign rows labels)
+    finish-as_it_is none = sum-is ∙ sym (all-is false none)
 
-    pub finish-two : (shape ≡ Prefixes) ⊎ (shape ≡ Suffixes) → (x : M) → x ≡ slice_index_or maps 1 x → (sum whole : E)
-        → sum ≡ total r (λ k. masked r (accepts accept k) (value_at x k)) (range_with_len 0 size)
-        → whole ≡ r.add (masked r (accepts accept unit) r.one) sum
+    pub finish-with_empty : (ending shape).adds_empty ≡ true → (whole : E) → whole ≡ r.add (masked r (accepts accept unit) r.one) sum
         → whole ≡ accepted_sum r (key_of unit times labels letters) (weight_of r labels letters) accept (candidates shape rows labels)
-    finish-two (inl e) x is sum whole total_is added =
-        empty-before (part shape labels Pre 0 rows) sum whole
-        (total_is ∙ keys-total (part shape labels Pre 0 rows) x
-        (shown-at 1 Pre x (subst (λ s. IsAt (components s) 1 Pre) (sym e) refl) is)) added
-        ∙ ap (accepted_sum r (key_of unit times labels letters) (weight_of r labels letters) accept)
-        (sym (subst (λ s. candidates s rows labels ≡ [] ∷ part s labels Pre 0 rows) (sym e) (candidates-prefixes rows labels)))
-    finish-two (inr e) x is sum whole total_is added =
-        empty-before (part shape labels Suf 0 rows) sum whole
-        (total_is ∙ keys-total (part shape labels Suf 0 rows) x
-        (shown-at 1 Suf x (subst (λ s. IsAt (components s) 1 Suf) (sym e) refl) is)) added
-        ∙ ap (accepted_sum r (key_of unit times labels letters) (weight_of r labels letters) accept)
-        (sym (subst (λ s. candidates s rows labels ≡ [] ∷ part s labels Suf 0 rows) (sym e) (candidates-suffixes rows labels)))
-
-    pub finish-four : shape ≡ Segments → (x : M) → x ≡ slice_index_or maps 3 x → (sum whole : E)
-        → sum ≡ total r (λ k. masked r (accepts accept k) (value_at x k)) (range_with_len 0 size)
-        → whole ≡ r.add (masked r (accepts accept unit) r.one) sum
-        → whole ≡ accepted_sum r (key_of unit times labels letters) (weight_of r labels letters) accept (candidates shape rows labels)
-    finish-four e x is sum whole total_is added =
-        empty-before (part shape labels Seg 0 rows) sum whole
-        (total_is ∙ keys-total (part shape labels Seg 0 rows) x
-        (shown-at 3 Seg x (subst (λ s. IsAt (components s) 3 Seg) (sym e) refl) is)) added
-        ∙ ap (accepted_sum r (key_of unit times labels letters) (weight_of r labels letters) accept)
-        (sym (subst (λ s. candidates s rows labels ≡ [] ∷ part s labels Seg 0 rows) (sym e) (candidates-segments rows labels)))
+    finish-with_empty adds whole added =
+        empty-before (lists_at shape labels 0 rows (ending shape).place) sum whole sum-is added ∙ sym (all-is true adds)

@@ -110,6 +110,16 @@ module _ {E M : Type 0} {r : SemiringOn E} (laws : IsSemiring r) {size unit : �
     sums = λ m. value m ∙ mark-sums row label x elem row_in label_in is same m;
   }
 
+  before-sums : (row label : ℕ) (x : Letter E) (later : ℕ → E) → row < rows → label < labels
+      → x ≡ slice_index_or letters (row * labels + label) x → (ds : List (List Mark))
+      → ShowsSums r (key_of unit times labels letters) (weight_of r labels letters) ds later
+      → ShowsSums r (key_of unit times labels letters) (weight_of r labels letters) (map (λ d. mark row label ∷ d) ds)
+      (convolution r size times (alone r x.key x.elem) later)
+  before-sums row label x later row_in label_in is ds sums m =
+      product_shows laws (weighs laws monoid shape rows labels letters has) ((mark row label ∷ []) ∷ []) ds (alone r x.key x.elem) later
+      (mark-sums row label x x.elem row_in label_in is refl) sums m
+      ∙ ap (λ l. total_at_key r (key_of unit times labels letters) (weight_of r labels letters) l m) (append-nil (map (λ d. mark row label ∷ d) ds))
+
   -- the mark before each list of a map
   pub before-value : (row label : ℕ) (x : Letter E) (later z : M) → row < rows → label < labels
       → x ≡ slice_index_or letters (row * labels + label) x → fits z
@@ -119,10 +129,23 @@ module _ {E M : Type 0} {r : SemiringOn E} (laws : IsSemiring r) {size unit : �
       → Shows r (key_of unit times labels letters) (weight_of r labels letters) fits value_at (map (λ d. mark row label ∷ d) ds) z
   before-value row label x later z row_in label_in is z_fits value ds shown = record {
     fits_kit = z_fits;
+    sums = λ m. value m ∙ before-sums row label x (value_at later) row_in label_in is ds shown.sums m;
+  }
+
+  -- what a map shows, with the mark before each list of another
+  pub with_before-value : (row label : ℕ) (x : Letter E) (into later z : M) → row < rows → label < labels
+      → x ≡ slice_index_or letters (row * labels + label) x → fits z
+      → ((k : ℕ) → value_at z k ≡ r.add (value_at into k) (convolution r size times (alone r x.key x.elem) (value_at later) k))
+      → (cs ds : List (List Mark))
+      → Shows r (key_of unit times labels letters) (weight_of r labels letters) fits value_at cs into
+      → Shows r (key_of unit times labels letters) (weight_of r labels letters) fits value_at ds later
+      → Shows r (key_of unit times labels letters) (weight_of r labels letters) fits value_at (cs ++ map (λ d. mark row label ∷ d) ds) z
+  with_before-value row label x into later z row_in label_in is z_fits value cs ds xs ys = record {
+    fits_kit = z_fits;
     sums = λ m. value m
-        ∙ product_shows laws (weighs laws monoid shape rows labels letters has) ((mark row label ∷ []) ∷ []) ds (alone r x.key x.elem) (value_at later)
-        (mark-sums row label x x.elem row_in label_in is refl) shown.sums m
-        ∙ ap (λ l. total_at_key r (key_of unit times labels letters) (weight_of r labels letters) l m) (append-nil (map (λ d. mark row label ∷ d) ds));
+        ∙ sum_shows laws (weighs laws monoid shape rows labels letters has) cs (map (λ d. mark row label ∷ d) ds)
+        (value_at into) (convolution r size times (alone r x.key x.elem) (value_at later)) xs.sums
+        (λ n. before-sums row label x (value_at later) row_in label_in is ds ys.sums n) m;
   }
 
   -- the letter's reach is as far as the plan's letters say

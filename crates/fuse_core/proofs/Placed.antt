@@ -1,10 +1,10 @@
 -- Items by their places, lists taken item by item, and what a sum over them costs.
-use Rattle.std.proofs.Common.{◌≡◌, refl, sym, ap, ◌∙◌, subst, ℕ, zero, suc, ◌+◌, ◌*◌, ◌<◌, ◌≤◌, ◌⊎◌, inl, inr, List, [], ◌∷◌, ◌++◌, length, take, drop, map, slice_index_or, arith, mul-le-mul_right}
-use Rattle.std.proofs.lemmas.List.{append-nil, take_more, map-append}
+use Rattle.std.proofs.Common.{◌≡◌, refl, sym, ap, ◌∙◌, subst, ℕ, zero, suc, ◌+◌, ◌-◌, ◌*◌, ◌<◌, ◌≤◌, ◌⊎◌, inl, inr, List, [], ◌∷◌, ◌++◌, length, take, drop, map, slice_index_or, arith, mul-le-mul_right}
+use Rattle.std.proofs.lemmas.List.{append-nil, take_more, take_all, map-append}
 use Rattle.std.specs.List.{flat_map}
 use Rattle.shape_gen.proofs.Lists.{flat_map-append}
 use Rattle.fuse_core.specs.declared.wiring.Growth.{Growth}
-use Rattle.fuse_core.specs.declared.wiring.Growth.TheVariants.{Alone, Before, Same}
+use Rattle.fuse_core.specs.declared.wiring.Growth.TheVariants.{Kept, Alone, Before, Same}
 use Rattle.fuse_core.specs.declared.wiring.Source.{Source}
 use Rattle.fuse_core.specs.declared.wiring.Source.TheVariants.{Left, Right, Across}
 use Rattle.fuse_core.specs.declared.wiring.Wires.{Wires}
@@ -76,6 +76,29 @@ module _ {X : Type 0} where
       let there = stands-default xs i default (omega arith) in
       record { within = within; is = there.is }
 
+any-default : {X : Type 0} (xs : List X) (i : ℕ) (x default : X) → i < length xs → slice_index_or xs i default ≡ x → x ≡ slice_index_or xs i x
+any-default [] i x default within is = absurd (omega arith)
+any-default (z ∷ xs) zero x default within is = sym is
+any-default (z ∷ xs) (suc i) x default within is = any-default xs i x default (omega arith) is
+
+-- the items behind the first, by their places in the whole list
+pub behind-at : {X : Type 0} (xs : List X) (i : ℕ) (x default : X) → i < length (take (length xs - 1) (drop 1 xs))
+    → slice_index_or (take (length xs - 1) (drop 1 xs)) i default ≡ x → StandsAt xs (i + 1) x
+behind-at [] i x default within is = absurd (omega arith)
+behind-at (y ∷ ys) i x default within is =
+    let all : take (length (y ∷ ys) - 1) ys ≡ ys = take_all (length (y ∷ ys) - 1) ys (omega arith) in
+    let inside : i < length ys = subst (λ l. i < length l) all within in
+    let next : suc i ≡ i + 1 = omega arith in
+    subst (λ n. StandsAt (y ∷ ys) n x) next
+    (record { within = omega arith; is = any-default ys i x default inside (subst (λ l. slice_index_or l i default ≡ x) all is) })
+
+pub behind-all : {X : Type 0} (xs : List X) (i : ℕ) → length (take (length xs - 1) (drop 1 xs)) ≤ i → length xs ≤ i + 1
+behind-all [] i past = omega arith
+behind-all (y ∷ ys) i past =
+    let all : take (length (y ∷ ys) - 1) ys ≡ ys = take_all (length (y ∷ ys) - 1) ys (omega arith) in
+    let rest : length ys ≤ i = subst (λ l. length l ≤ i) all past in
+    omega (arith, rest)
+
 -- costs
 
 pub cost-more : (done one all each old mid new : ℕ) → all ≡ done + one → mid ≤ old + done * each → new ≤ mid + one * each
@@ -91,6 +114,7 @@ cost-part done all each old new part so_far =
 
 shifts-append : (xs ys : List Growth) → shifts (xs ++ ys) ≡ shifts xs + shifts ys
 shifts-append [] ys = omega arith
+shifts-append (Kept place ∷ xs) ys = shifts-append xs ys
 shifts-append (Alone label ∷ xs) ys = shifts-append xs ys
 shifts-append (Before label place ∷ xs) ys = let rest = shifts-append xs ys in omega arith
 shifts-append (Same place ∷ xs) ys = shifts-append xs ys
@@ -101,6 +125,7 @@ shifts-pushed xs i x at = ap shifts (take-pushed xs i x at) ∙ shifts-append (t
 pub shifts-take : (i : ℕ) (xs : List Growth) → shifts (take i xs) ≤ shifts xs
 shifts-take zero xs = omega arith
 shifts-take (suc i) [] = omega arith
+shifts-take (suc i) (Kept place ∷ xs) = shifts-take i xs
 shifts-take (suc i) (Alone label ∷ xs) = shifts-take i xs
 shifts-take (suc i) (Before label place ∷ xs) = let rest = shifts-take i xs in omega arith
 shifts-take (suc i) (Same place ∷ xs) = shifts-take i xs

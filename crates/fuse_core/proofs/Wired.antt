@@ -9,14 +9,15 @@ use Rattle.monoid_kit.specs.Items.{IsIn}
 use Rattle.shape_gen.specs.declared.mark.Mark.{Mark}
 use Rattle.shape_gen.specs.declared.shape.Shape.{Shape}
 use Rattle.shape_gen.specs.declared.shape.Shape.TheVariants.{Sublists, Assign, Prefixes, Suffixes, Segments}
-use Rattle.shape_gen.specs.Candidates.{mark, run, sublists, assignments, prefixes, suffixes, segments}
+use Rattle.shape_gen.specs.Candidates.{mark, run, sublists, assignments, prefixes, suffixes, segments, candidates}
 use Rattle.shape_gen.specs.Parts.{Component, Whole, Pre, Suf, Seg, components, part}
+use Rattle.shape_gen.proofs.Parts.{candidates-sublists, candidates-assign, candidates-prefixes, candidates-suffixes, candidates-segments}
 use Rattle.shape_gen.proofs.Parts.{whole-parts, pre-parts, suf-parts, seg-parts, whole-none, pre-none, suf-none, seg-none}
 use Rattle.fuse_core.specs.declared.wiring.Growth.{Growth}
 use Rattle.fuse_core.specs.declared.wiring.Growth.TheVariants.{Before}
 use Rattle.fuse_core.specs.declared.wiring.Source.{Source}
 use Rattle.fuse_core.specs.declared.wiring.Wires.{Wires}
-use Rattle.fuse_core.specs.Wirings.{WiresOn, wires_on, source_lists, growth_lists, kept_lists, shifts, all_crossings, all_shifts, SourceWithin, GrowthWithin, wires, wiring}
+use Rattle.fuse_core.specs.Wirings.{WiresOn, wires_on, source_lists, growth_lists, kept_lists, shifts, all_crossings, all_shifts, SourceWithin, GrowthWithin, wires, wiring, ending, with_empty}
 use Rattle.fuse_core.specs.Places.{StandsAt, ShowEach, ShowGrown, ShowNoRow, ShowJoined, Brings, WiresGrow, WiresJoin}
 use Rattle.fuse_core.proofs.Picks.{in-map, in-range}
 
@@ -29,7 +30,7 @@ lists_at shape labels lo hi place = part shape labels (component_at shape place)
 
 -- what a row brings to the component at a place
 abbrev pub brings : Shape → ℕ → ℕ → ℕ → ℕ → List (List Mark)
-brings Sublists labels row hi place = map (λ c. mark row 0 ∷ c) (part Sublists labels Whole (row + 1) hi)
+brings Sublists labels row hi place = part Sublists labels Whole row hi
 brings Assign labels row hi place = part Assign labels Whole row hi
 brings Prefixes labels row hi place = lists_at Prefixes labels row hi place
 brings Suffixes labels row hi place = part Suffixes labels Whole row hi
@@ -80,7 +81,8 @@ module _ (row hi : ℕ) (below : row < hi) where
   pub shape-brings : (shape : Shape) (labels place : ℕ) → place < length (components shape)
       → brings shape labels row hi place
       ≡ flat_map (growth_lists row (λ p. lists_at shape labels (row + 1) hi p) (brings shape labels row hi)) (wires shape labels (component_at shape place)).growths
-  shape-brings Sublists labels zero within = sym (append-nil _)
+  shape-brings Sublists labels zero within =
+      ap (sublists row) count ∙ ap (λ l. sublists (row + 1) (hi - (row + 1)) ++ l) (sym (append-nil _))
   shape-brings Sublists labels (suc place) within = absurd (omega arith)
   shape-brings Assign labels zero within =
       let f = growth_lists row (λ p. lists_at Assign labels (row + 1) hi p) (brings Assign labels row hi) in
@@ -103,7 +105,7 @@ module _ (row hi : ℕ) (below : row < hi) where
   pub shape-grown : (shape : Shape) (labels place : ℕ) → place < length (components shape)
       → IsPermutation (lists_at shape labels row hi place)
       (kept_lists (wires shape labels (component_at shape place)).keeps (lists_at shape labels (row + 1) hi place) ++ brings shape labels row hi place)
-  shape-grown Sublists labels zero within = same_parts _ _ (ap (sublists row) count)
+  shape-grown Sublists labels zero within = IsPermutation-refl _
   shape-grown Sublists labels (suc place) within = absurd (omega arith)
   shape-grown Assign labels zero within = IsPermutation-refl _
   shape-grown Assign labels (suc place) within = absurd (omega arith)
@@ -132,6 +134,24 @@ shape-none shape labels lo place =
       | Suf ↦ suf-none shape labels lo
       | Seg ↦ seg-none shape labels lo
     ]
+
+-- at the end
+
+pub ending-within : (shape : Shape) → (ending shape).place < length (components shape)
+ending-within Sublists = omega arith
+ending-within Assign = omega arith
+ending-within Prefixes = omega arith
+ending-within Suffixes = omega arith
+ending-within Segments = omega arith
+
+-- the candidates are the lists of the component that the ending names, with the empty one where it is added
+pub shape-ends : (shape : Shape) (rows labels : ℕ)
+    → candidates shape rows labels ≡ with_empty (ending shape).adds_empty (lists_at shape labels 0 rows (ending shape).place)
+shape-ends Sublists rows labels = candidates-sublists rows labels
+shape-ends Assign rows labels = candidates-assign rows labels
+shape-ends Prefixes rows labels = candidates-prefixes rows labels
+shape-ends Suffixes rows labels = candidates-suffixes rows labels
+shape-ends Segments rows labels = candidates-segments rows labels
 
 -- two halves together
 
@@ -171,8 +191,9 @@ module _ (labels lo mid hi : ℕ) (left : lo ≤ mid) (right : mid ≤ hi) where
 pub shape-grows : (shape : Shape) (labels place : ℕ) → 1 ≤ labels → place < length (components shape)
     → (growth : Growth) → IsIn growth (wires shape labels (component_at shape place)).growths
     → GrowthWithin labels (length (components shape)) place growth
-shape-grows Sublists labels zero some within growth (inl same) = subst (GrowthWithin labels 1 0) (sym same) (omega arith, omega arith)
-shape-grows Sublists labels zero some within growth (inr none) = absurd none
+shape-grows Sublists labels zero some within growth (inl same) = subst (GrowthWithin labels 1 0) (sym same) (omega arith)
+shape-grows Sublists labels zero some within growth (inr (inl same)) = subst (GrowthWithin labels 1 0) (sym same) (omega arith, omega arith)
+shape-grows Sublists labels zero some within growth (inr (inr none)) = absurd none
 shape-grows Sublists labels (suc place) some within growth growth_in = absurd (omega arith)
 shape-grows Assign labels zero some within growth growth_in =
     let found = in-map (λ label. Before label 0) growth (range_with_len 0 labels) growth_in in

@@ -3,4 +3,3 @@ pub mod Stands
 pub mod Plans
 pub mod Wirings
 pub mod Places
-pub mod Components

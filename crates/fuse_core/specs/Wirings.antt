@@ -10,8 +10,9 @@ use Rattle.shape_gen.specs.Parts.{Component, Whole, Pre, Suf, Seg, components}
 use Rattle.fuse_core.specs.declared.wiring.Source.{Source}
 use Rattle.fuse_core.specs.declared.wiring.Source.TheVariants.{Left, Right, Across}
 use Rattle.fuse_core.specs.declared.wiring.Growth.{Growth}
-use Rattle.fuse_core.specs.declared.wiring.Growth.TheVariants.{Alone, Before, Same}
+use Rattle.fuse_core.specs.declared.wiring.Growth.TheVariants.{Kept, Alone, Before, Same}
 use Rattle.fuse_core.specs.declared.wiring.Wires.{Wires}
+use Rattle.fuse_core.specs.declared.wiring.Ending.{Ending}
 
 -- how one component comes about
 pub record WiresOn : Type 0 where
@@ -40,6 +41,7 @@ source_lists left right (Across earlier later) = joints (left earlier) (right la
 
 -- the lists that a row brings, from those of the later rows and those that it brings to the components before
 abbrev pub growth_lists : ℕ → (ℕ → List (List Mark)) → (ℕ → List (List Mark)) → Growth → List (List Mark)
+growth_lists row later added (Kept place) = later place
 growth_lists row later added (Alone label) = (mark row label ∷ []) ∷ []
 growth_lists row later added (Before label place) = map (λ c. mark row label ∷ c) (later place)
 growth_lists row later added (Same place) = added place
@@ -58,6 +60,7 @@ crossings (Across earlier later ∷ sources) = 1 + crossings sources
 -- how many maps a row multiplies for one component
 abbrev pub shifts : List Growth → ℕ
 shifts [] = 0
+shifts (Kept place ∷ growths) = shifts growths
 shifts (Alone label ∷ growths) = shifts growths
 shifts (Before label place ∷ growths) = 1 + shifts growths
 shifts (Same place ∷ growths) = shifts growths
@@ -79,6 +82,7 @@ SourceWithin width (Across earlier later) = (earlier < width) × (later < width)
 
 -- a growth names labels and components that there are, and components before its own
 abbrev pub GrowthWithin : ℕ → ℕ → ℕ → Growth → Type 0
+GrowthWithin labels width own (Kept place) = place < width
 GrowthWithin labels width own (Alone label) = label < labels
 GrowthWithin labels width own (Before label place) = (label < labels) × (place < width)
 GrowthWithin labels width own (Same place) = place < own
@@ -96,23 +100,16 @@ suffixes_place Suffixes = 1
 -- whole lists: sublists keep those without the row, and assignments give it each label
 abbrev pub whole_growths : Shape → ℕ → List Growth
 whole_growths Assign labels = map (λ label. Before label 0) (range_with_len 0 labels)
-whole_growths Sublists labels = Before 0 0 ∷ []
+whole_growths Sublists labels = Kept 0 ∷ Before 0 0 ∷ []
 whole_growths Prefixes labels = Before 0 0 ∷ []
 whole_growths Suffixes labels = Before 0 0 ∷ []
 whole_growths Segments labels = Before 0 0 ∷ []
-
-abbrev pub keeps_wholes : Shape → Bool
-keeps_wholes Sublists = true
-keeps_wholes Assign = false
-keeps_wholes Prefixes = false
-keeps_wholes Suffixes = false
-keeps_wholes Segments = false
 
 abbrev pub whole_wires : Shape → ℕ → WiresOn
 whole_wires shape labels = record {
   has_empty = true;
   sources = Across 0 0 ∷ [];
-  keeps = keeps_wholes shape;
+  keeps = false;
   growths = whole_growths shape labels;
 }
 
@@ -151,3 +148,17 @@ wires shape labels Seg = segment_wires
 
 abbrev pub wiring : Shape → ℕ → List WiresOn
 wiring shape labels = map (wires shape labels) (components shape)
+
+-- the end
+
+-- where a shape's candidates are once all rows are joined: whole lists, or else nonempty ones, and the empty one besides
+abbrev pub ending : Shape → Ending
+ending Sublists = record { place = 0; adds_empty = false }
+ending Assign = record { place = 0; adds_empty = false }
+ending Prefixes = record { place = 1; adds_empty = true }
+ending Suffixes = record { place = 1; adds_empty = true }
+ending Segments = record { place = 3; adds_empty = true }
+
+-- the lists, with the empty one before them where it is added
+abbrev pub with_empty : Bool → List (List Mark) → List (List Mark)
+with_empty adds lists = if adds then [] ∷ lists else lists

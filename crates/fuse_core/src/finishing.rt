@@ -10,11 +10,11 @@ ghost use Rattle.fuse_core.specs.Plans.{accepts, accepted_sum};
 
 use crate::letter::Tuple;
 use crate::plan::Plan;
+use crate::shapes::ending_of;
 use interval_kit::Fused;
 use key_map::MapKit;
 use monoid_kit::Monoid;
 use semiring_kit::Semiring;
-use shape_gen::Shape;
 use std::alloc::{AllocError, Global};
 
 /// The sum of the weights of exactly those candidates whose keys are accepted, from a value that stands for all rows.
@@ -35,16 +35,12 @@ pub fn finish<K: MapKit>(
         let all = candidates plan.now.shape plan.now.rows plan.now.labels in
         IfOk result (λ sum. sum ≡ accepted_sum ring key weight accept.now all) }
 {
-    match plan.shape {
-        Shape::Sublists | Shape::Assign => accepted_of(alloc, &plan.kit, &value.maps[0], accept),
-        Shape::Prefixes | Shape::Suffixes => {
-            let sum = accepted_of(alloc, &plan.kit, &value.maps[1], accept)?;
-            with_empty(alloc, &plan.kit, sum, accept)
-        }
-        Shape::Segments => {
-            let sum = accepted_of(alloc, &plan.kit, &value.maps[3], accept)?;
-            with_empty(alloc, &plan.kit, sum, accept)
-        }
+    let ending = ending_of(plan.shape);
+    let sum = accepted_of(alloc, &plan.kit, &value.maps[ending.place], accept)?;
+    if ending.adds_empty {
+        with_empty(alloc, &plan.kit, sum, accept)
+    } else {
+        Ok(sum)
     }
 }
 

@@ -122,12 +122,24 @@ fn grown<M: Maps, L: Ledger>(
         → shows (flat_map (growth_lists row lists brought) growths.now) made) }
     ensures cost { steps.new ≤ steps.old + shifts growths.now * M.size maps.now }
 {
-    let mut sum = maps.nothing(alloc)?;
-    for growth in growths {
-        let more = growth_of(maps, alloc, row, growth, later, added, steps)?;
-        sum = maps.both(alloc, sum, more)?;
+    match growths {
+        [] => maps.nothing(alloc),
+        [first, others @ ..] => {
+            let mut sum = growth_of(maps, alloc, row, first, later, added, steps)?;
+            for growth in others {
+                sum = match growth {
+                    Growth::Before(label, place) => {
+                        maps.with_before(alloc, sum, row, *label, &later[*place], steps)?
+                    }
+                    _ => {
+                        let more = growth_of(maps, alloc, row, growth, later, added, steps)?;
+                        maps.both(alloc, sum, more)?
+                    }
+                };
+            }
+            Ok(sum)
+        }
     }
-    Ok(sum)
 }
 
 // What one growth gives.
@@ -154,6 +166,7 @@ fn growth_of<M: Maps, L: Ledger>(
     ensures cost { steps.new ≤ steps.old + shifts (growth.now ∷ []) * M.size maps.now }
 {
     match growth {
+        Growth::Kept(place) => maps.same(alloc, &later[*place]),
         Growth::Alone(label) => maps.marked(alloc, row, *label),
         Growth::Before(label, place) => maps.before(alloc, row, *label, &later[*place], steps),
         Growth::Same(place) => maps.same(alloc, &added[*place]),

@@ -92,6 +92,28 @@ pub(crate) trait Maps: Drop {
             → shows self.now (map (λ d. mark row label ∷ d) ds) before) }
         ensures cost { steps.new ≤ steps.old + size self.now };
 
+    /// The map of the lists of the first, and of the mark before each list of the second.
+    fn with_before<L: Ledger>(
+        &self,
+        alloc: Global,
+        into: Self::Map,
+        row: u32,
+        label: u32,
+        later: &Self::Map,
+        steps: &mut Steps<L>,
+    ) -> Result<Self::Map, AllocError>
+        requires into_fits { fits self.now into }
+        requires row_in_range { row < rows self.now }
+        requires label_in_range { label < labels self.now }
+        requires later_fits { fits self.now later.now }
+        requires follows { follows self.now row label later.now }
+        ensures fits { IfOk result (fits self.now) }
+        ensures shows { IfOk result (λ sum. (cs ds : List (List Mark))
+            → shows self.now cs into
+            → shows self.now ds later.now
+            → shows self.now (cs ++ map (λ d. mark row label ∷ d) ds) sum) }
+        ensures cost { steps.new ≤ steps.old + size self.now };
+
     /// The map of each list of the first with each of the second behind it.
     fn across<L: Ledger>(
         &self,

@@ -229,6 +229,20 @@ impl<K: MapKit> Maps for Plan<K> {
             .shifted(alloc, letter.key, &letter.elem, later, steps)
     }
 
+    fn with_before<L: Ledger>(
+        &self,
+        alloc: Global,
+        into: K::Map,
+        row: u32,
+        label: u32,
+        later: &K::Map,
+        steps: &mut Steps<L>,
+    ) -> Result<K::Map, AllocError> {
+        let letter = &self.letters[row as usize * self.labels as usize + label as usize];
+        self.kit
+            .with_shifted(alloc, into, letter.key, &letter.elem, later, steps)
+    }
+
     fn across<L: Ledger>(
         &self,
         alloc: Global,

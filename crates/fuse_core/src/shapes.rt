@@ -3,10 +3,10 @@
 ghost use Rattle.std.specs.Prelude.{◌≡◌, map, IfOk};
 ghost use Rattle.std.specs.List.{range_with_len};
 ghost use Rattle.fuse_core.specs.declared.wiring.Growth.TheVariants.{Before};
-ghost use Rattle.fuse_core.specs.Wirings.{wires_on, wiring, whole_growths, suffixes_place};
+ghost use Rattle.fuse_core.specs.Wirings.{ending, wires_on, wiring, whole_growths, suffixes_place};
 ghost use Rattle.fuse_core.specs.Wirings.{whole_wires, prefix_wires, suffix_wires, segment_wires};
 
-use crate::wiring::{Growth, Source, Wires};
+use crate::wiring::{Ending, Growth, Source, Wires};
 use shape_gen::Shape;
 use std::alloc::{AllocError, Global};
 
@@ -29,6 +29,18 @@ pub(crate) fn wiring_of(alloc: Global, shape: Shape, labels: u32) -> Result<Vec<
     Ok(made)
 }
 
+/// Where the candidates of a shape are: whole lists, or else those of the last component, and the empty one.
+pub(crate) fn ending_of(shape: Shape) -> Ending
+    ensures { result ≡ ending shape }
+{
+    let (place, adds_empty) = match shape {
+        Shape::Sublists | Shape::Assign => (0, false),
+        Shape::Prefixes | Shape::Suffixes => (1, true),
+        Shape::Segments => (3, true),
+    };
+    Ending { place, adds_empty }
+}
+
 // Whole lists.
 fn whole_wires(alloc: Global, shape: Shape, labels: u32) -> Result<Wires, AllocError>
     ensures { IfOk result (λ made. wires_on made ≡ whole_wires shape labels) }
@@ -36,7 +48,7 @@ fn whole_wires(alloc: Global, shape: Shape, labels: u32) -> Result<Wires, AllocE
     Ok(Wires {
         has_empty: true,
         sources: vec![in alloc; Source::Across(0, 0)]?,
-        keeps: matches!(shape, Shape::Sublists),
+        keeps: false,
         growths: whole_growths(alloc, shape, labels)?,
     })
 }
@@ -46,6 +58,7 @@ fn whole_growths(alloc: Global, shape: Shape, labels: u32) -> Result<Vec<Growth>
     ensures { IfOk result (λ made. made.items ≡ whole_growths shape labels) }
 {
     match shape {
+        Shape::Sublists => Ok(vec![in alloc; Growth::Kept(0), Growth::Before(0, 0)]?),
         Shape::Assign => labelled(alloc, labels),
         _ => Ok(vec![in alloc; Growth::Before(0, 0)]?),
     }

@@ -15,12 +15,23 @@ pub(crate) enum Source {
 /// Lists that a row brings to a component of the rows after it.
 #[derive(Drop)]
 pub(crate) enum Growth {
+    /// Those of a component of the later rows, without the row.
+    Kept(usize),
     /// The row alone, with this label.
     Alone(u32),
     /// The row with this label before each list of a component of the later rows.
     Before(u32, usize),
     /// What the row brings to a component before.
     Same(usize),
+}
+
+/// Where a shape's candidates are, once all rows are joined.
+#[derive(Drop)]
+pub(crate) struct Ending {
+    /// The place of the component whose lists are the candidates.
+    pub(crate) place: usize,
+    /// The empty candidate isn't among them, and comes before.
+    pub(crate) adds_empty: bool,
 }
 
 /// How one component comes about.

@@ -156,6 +156,41 @@ pub trait MapKit: Drop {
         self.convolve(alloc, &single, map, steps)
     }
 
+    /// The sum of a map that is needed no more, and the convolution of the map that has this value at this key
+    /// alone with another map, in this order.
+    /// It takes at most a step for each key that the other map keeps, also where memory is refused.
+    fn with_shifted<L: Ledger>(
+        &self,
+        alloc: Global,
+        into: Self::Map,
+        key: u32,
+        elem: &<Self::Kit as Semiring>::Elem,
+        map: &Self::Map,
+        steps: &mut Steps<L>,
+    ) -> Result<Self::Map, AllocError>
+        requires into_fits { fits self.now into }
+        requires key_is_element { key < Self.Keys.size (keys self.now) }
+        requires elem_is_good { IsGood (Self.Kit.ring (kit self.now)) elem.now }
+        requires fits { fits self.now map.now }
+        requires reaches_add_up { let ring = Self.Kit.ring (kit self.now) in
+            ReachesAddUp ring (alone ring key elem.now) (value_at self.now map.now) }
+        ensures fits { IfOk result (fits self.now) }
+        ensures value { let ring = Self.Kit.ring (kit self.now) in
+            let size = Self.Keys.size (keys self.now) in
+            let times = Self.Keys.mul (keys self.now) in
+            let x = alone ring key elem.now in
+            let y = value_at self.now map.now in
+            let shifted = convolution ring size times x y in
+            IfOk result (λ sum.
+            SameValues (value_at self.now sum) (sums ring (value_at self.now into) shifted)) }
+        ensures kept { let most = kept self.now into + kept self.now map.now in
+            IfOk result (λ sum. kept self.now sum ≤ most) }
+        ensures cost { steps.new ≤ steps.old + kept self.now map.now }
+    {
+        let shifted = self.shifted(alloc, key, elem, map, steps)?;
+        self.sum(alloc, into, shifted)
+    }
+
     /// The value at a key.
     fn get(
         &self,

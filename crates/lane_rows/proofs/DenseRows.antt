@@ -167,6 +167,16 @@ module _ {E L : Type 0} {r : SemiringOn E} (laws : IsSemiring r) (is_lane : L �
         (moved_at-is_sound laws is_lane shows elem good.sound (times key) y y_sound size k)
         ∙ convolution-alone key elem k key_in good
 
+    -- a row to which the products with one value were added
+    pub lifted-shown : (row new : List L) (lane : L) (key : ℕ) (elem : E) (k : ℕ)
+        → shows lane ≡ elem → key < size → IsGood r elem
+        → IsLifted r is_lane shows row new (moved_at r (shows lane) (times key) size y)
+        → shown r shows new k ≡ r.add (shown r shows row k) (convolution r size times (alone r key elem) y k)
+    lifted-shown row new lane key elem k is key_in good lifted =
+        lifted.values k
+        ∙ ap (λ e. r.add (shown r shows row k) (moved_at r e (times key) size y k)) is
+        ∙ ap (r.add (shown r shows row k)) (convolution-alone key elem k key_in good)
+
     -- a key without a value adds nothing
     pub moved_at-zero : (x : E) (a k : ℕ) → x ≡ r.zero → moved_at r x (times a) size y k ≡ r.zero
     moved_at-zero x a k is = ap (λ e. moved_at r e (times a) size y k) is ∙ (key-IsAdditive a k).keeps_unit

@@ -111,6 +111,19 @@ impl<S: Lanes, M: Monoid> MapKit for DenseKit<S, M> {
         Ok(row)
     }
 
+    fn with_shifted<L: Ledger>(
+        &self,
+        alloc: Global,
+        mut into: Self::Map,
+        key: u32,
+        elem: &S::Elem,
+        map: &Self::Map,
+        _steps: &mut Steps<L>,
+    ) -> Result<Self::Map, AllocError> {
+        self.lift_key(alloc, &mut into, key, map, self.kit.lane_of(elem))?;
+        Ok(into)
+    }
+
     fn get(&self, alloc: Global, map: &Self::Map, key: u32) -> Result<S::Elem, AllocError> {
         self.kit.elem_of(alloc, map[key as usize])
     }

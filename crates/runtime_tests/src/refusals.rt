@@ -1,6 +1,7 @@
 //! What no clause says: what is left where a leaf or a join finds no memory or a piece finds no room, and that the
 //! workers compute all leaves and joins, at their own turns.
 ghost use Rattle.std.specs.Prelude.{◌≡◌, ◌-◌, ◌<◌};
+ghost use Rattle.step_count.specs.Blanks.{IsBlankOf};
 
 use board_table::{Leftover, start};
 use interval_kit::{Fused, Piece, cut_of};
@@ -93,9 +94,7 @@ fn solved<R: Threads + Sync, G: Gate + Sync, L: Ledger>(
     gate: &G,
     blank: Blank,
 ) -> Result<Option<u32>, AllocError>
-    requires same_name { blank.name ≡ L.name }
-    requires same_parts { blank.parts ≡ L.parts }
-    requires some_part { 0 < blank.parts }
+    requires blank { IsBlankOf L.name L.parts blank }
 {
     let mut steps = Steps::<L>::new(blank);
     let cut = cut_of(alloc, 8, 1)?;
@@ -113,9 +112,7 @@ fn solved_without<R: Threads + Sync, L: Ledger>(
     refused: &[u64],
     blank: Blank,
 ) -> Result<(Option<u32>, u64), AllocError>
-    requires same_name { blank.name ≡ L.name }
-    requires same_parts { blank.parts ≡ L.parts }
-    requires some_part { 0 < blank.parts }
+    requires blank { IsBlankOf L.name L.parts blank }
 {
     let plan = Refusing::new(alloc, refused)?;
     let value = solved::<R, OpenGate, L>(rt, alloc, &plan, workers, &OpenGate, blank)?;
@@ -190,9 +187,7 @@ fn readings<R: Threads + Sync, L: Ledger>(
     workers: u32,
     blank: Blank,
 ) -> Result<(u64, u64, u64), AllocError>
-    requires same_name { blank.name ≡ L.name }
-    requires same_parts { blank.parts ≡ L.parts }
-    requires some_part { 0 < blank.parts }
+    requires blank { IsBlankOf L.name L.parts blank }
 {
     let plan = Refusing::new(alloc, &[])?;
     let gate = Reading {
@@ -242,9 +237,7 @@ fn left_by<L: Ledger>(
     refused: &[u64],
     blank: Blank,
 ) -> Result<(WorkEnd, u64, usize, usize, bool), AllocError>
-    requires same_name { blank.name ≡ L.name }
-    requires same_parts { blank.parts ≡ L.parts }
-    requires some_part { 0 < blank.parts }
+    requires blank { IsBlankOf L.name L.parts blank }
 {
     let mut steps = Steps::<L>::new(blank);
     let plan = Refusing::new(alloc, refused)?;

@@ -1,5 +1,6 @@
 //! What no clause says: how often leaves and joins are computed, and workers that meet.
 ghost use Rattle.std.specs.Prelude.{◌≡◌, ◌-◌, ◌+◌, ◌<◌, ◌≤◌, All, IfOk, length};
+ghost use Rattle.step_count.specs.Blanks.{IsBlankOf};
 ghost use Rattle.worker_pool.specs.Walk.{IsGood};
 
 use board_table::{Board, start};
@@ -104,9 +105,7 @@ fn gathered<L: Ledger>(
     intervals: &[(u32, u32)],
     blank: Blank,
 ) -> Result<(u32, (u64, u64)), AllocError>
-    requires same_name { blank.name ≡ L.name }
-    requires same_parts { blank.parts ≡ L.parts }
-    requires some_part { 0 < blank.parts }
+    requires blank { IsBlankOf L.name L.parts blank }
 {
     let mut steps = Steps::<L>::new(blank);
     let plan = RowCount::new(8);
@@ -143,9 +142,7 @@ fn solved<R: Threads + Sync, G: Gate + Sync, L: Ledger>(
     gate: &G,
     blank: Blank,
 ) -> Result<(u32, (u64, u64)), AllocError>
-    requires same_name { blank.name ≡ L.name }
-    requires same_parts { blank.parts ≡ L.parts }
-    requires some_part { 0 < blank.parts }
+    requires blank { IsBlankOf L.name L.parts blank }
 {
     let (rows, leaf, workers) = task;
     let mut steps = Steps::<L>::new(blank);
@@ -231,9 +228,7 @@ fn two_workers_run_beside_each_other(rt: HostRuntime) -> Result<(), Fail> {
 
 /// What one worker alone does on 8 rows: leaves, pairs, pieces in its pocket, and its end.
 fn worked<L: Ledger>(alloc: Global, blank: Blank) -> Result<(u32, u32, usize, WorkEnd), AllocError>
-    requires same_name { blank.name ≡ L.name }
-    requires same_parts { blank.parts ≡ L.parts }
-    requires some_part { 0 < blank.parts }
+    requires blank { IsBlankOf L.name L.parts blank }
 {
     let mut steps = Steps::<L>::new(blank);
     let plan = RowCount::new(8);

@@ -1,6 +1,7 @@
 //! The counter that bounds on work speak of. Contracts see a counter as the number of its steps.
 
 ghost use Rattle.std.specs.Prelude.{◌≡◌, ℕ, ◌+◌, ◌<◌};
+ghost use Rattle.step_count.specs.Blanks.{IsBlankOf};
 
 use std::marker::Model;
 use std::sync::ledger::{Blank, Book, Ledger, Share};
@@ -24,9 +25,7 @@ impl<L: Ledger> Model for Steps<L> {
 impl<L: Ledger> Steps<L> {
     /// A counter that stands at 0. A caller that counts nothing hands in `Blank::new(1)`.
     pub fn new(blank: Blank) -> Steps<L>
-        requires same_name { blank.name ≡ L.name }
-        requires same_parts { blank.parts ≡ L.parts }
-        requires some_part { 0 < blank.parts }
+        requires blank { IsBlankOf L.name L.parts blank }
         ensures { result ≡ 0 }
     {
         let (book, share) = blank.open();

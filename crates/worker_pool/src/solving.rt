@@ -2,6 +2,7 @@
 
 ghost use Rattle.std.specs.Prelude.{◌≡◌, ◌+◌, ◌*◌, ◌≤◌, ◌<◌, ◌++◌, Some, [], length, IfOk, All};
 ghost use Rattle.std.specs.List.{flat_map};
+ghost use Rattle.step_count.specs.Blanks.{IsBlankOf};
 ghost use Rattle.interval_kit.specs.Cut.{IsCut};
 ghost use Rattle.steal_deal.specs.Hands.{new_hands};
 ghost use Rattle.board_table.specs.Seen.{IsReady};
@@ -143,9 +144,7 @@ fn work_counted<F: Fused, G: Gate, L: Ledger>(
     gate: &G,
     blank: Blank,
 ) -> Done<F>
-    requires same_name { blank.name ≡ L.name }
-    requires same_parts { blank.parts ≡ L.parts }
-    requires some_part { 0 < blank.parts }
+    requires blank { IsBlankOf L.name L.parts blank }
     requires site { IsSite F.rows site.now }
     requires job { IsJob site.now.board.now site.now.plan.now site.now.blocks.now job }
     ensures { IsGoodDone F.rows F.stands site.now.plan.now result }

@@ -11,6 +11,6 @@ invariant-loop-growth g l =
     record {
       fits : g.M.Maps.fits l.maps l.sum;
       shows : (lists brought : ℕ → List (List Mark)) → ShowEach shows lists l.later → ShowEach shows brought l.added
-          → shows (flat_map (growth_lists l.row lists brought) (take l.growth-index l.growths)) l.sum;
-      cost : l.steps ≤ l.fn.steps + shifts (take l.growth-index l.growths) * g.M.Maps.size l.maps;
+          → shows (flat_map (growth_lists l.row lists brought) (take (l.growth-index + 1) l.growths)) l.sum;
+      cost : l.steps ≤ l.fn.steps + shifts (take (l.growth-index + 1) l.growths) * g.M.Maps.size l.maps;
     }
