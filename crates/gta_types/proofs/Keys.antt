@@ -1,10 +1,19 @@
--- Names in scopes: when two are the same, and what an index has after one more. Of any lists.
-use Rattle.std.proofs.Common.{◌≡◌, ℕ, Bool, true, false, ◌&&◌, nat_eq, List, Option, Some, None}
+-- Names in scopes: when two are the same, and what an index has after one more. Of any lists, and at the end of an index.
+use Rattle.std.proofs.Common.{◌≡◌, ℕ, Bool, true, false, ◌&&◌, nat_eq, List, [], ◌∷◌, Option, Some, None}
 use Rattle.std.proofs.Common.{is_some, cond, refl, sym, ◌∙◌, inl, inr, ◌⊎◌}
+use Rattle.std.proofs.Common.{Ordering, Less, Equal, Greater, nat_cmp, is_eq, ap}
 use Rattle.std.specs.Option.{option_or}
 use Rattle.std.specs.Str.{bytes_eq}
-use Rattle.std.proofs.lemmas.Bool.{and_parts, eqb-true, eq-eqb, false≢true}
+use Rattle.std.specs.Map.{lookup}
+use Rattle.std.specs.Ordering.{ordering_then}
+use Rattle.std.specs.Cmp.Lexicographic.{slice_cmp}
+use Rattle.std.proofs.lemmas.Bool.{and_parts, cases_eq, eqb-true, eq-eqb, ne_eqb, false≢true}
+use Rattle.std.proofs.lemmas.Cmp.{nat_cmp_total, tied_itself}
+use Rattle.std.proofs.lemmas.Map.Lookups.{exact_unsigned}
+use Rattle.std.proofs.lemmas.Map.Text.{is_eq-slice_cmp}
 use Rattle.std.proofs.lemmas.Slice.Eq.{bytes_eq-Decides}
+use Rattle.gta_types.specs.declared.names.Names.{Names}
+use Rattle.gta_types.specs.Index.{known_at}
 
 abbrev pub same_key : ℕ → List ℕ → ℕ → List ℕ → Bool
 same_key s x t y = nat_eq s t && bytes_eq x y
@@ -82,3 +91,39 @@ module _ {V : Type 0} where
       bare : (o : Option V) → o ≡ option_or o None
       bare None = refl
       bare (Some w) = refl
+
+equal_parts : (o p : Ordering) → is_eq (ordering_then o p) ≡ (is_eq o && is_eq p)
+equal_parts Less p = refl
+equal_parts Equal p = refl
+equal_parts Greater p = refl
+
+equal_numbers : (s t : ℕ) → is_eq (nat_cmp s t) ≡ nat_eq s t
+equal_numbers s t =
+    elim (cases_eq s t) [
+      | inl e ↦ (let here : is_eq (nat_cmp t t) ≡ true = ap is_eq (tied_itself nat_cmp_total t) in
+          rw e (here ∙ sym (eq-eqb t t refl)))
+      | inr apart ↦ not_equal (nat_cmp s t) refl apart ∙ sym (ne_eqb s t apart)
+    ]
+  where
+    not_equal : (o : Ordering) → nat_cmp s t ≡ o → (s ≡ t → ⊥) → is_eq o ≡ false
+    not_equal Less e apart = refl
+    not_equal Equal e apart = absurd (apart (exact_unsigned s t e))
+    not_equal Greater e apart = refl
+
+-- names that compare as equal are the same
+pub equal_keys : (s : ℕ) (x : List ℕ) (t : ℕ) (y : List ℕ)
+    → is_eq (ordering_then (nat_cmp s t) (slice_cmp nat_cmp x y)) ≡ same_key s x t y
+equal_keys s x t y =
+    equal_parts (nat_cmp s t) (slice_cmp nat_cmp x y) ∙ rw (equal_numbers s t, is_eq-slice_cmp x y) refl
+
+lookup_same : {K V : Type 0} (p q : K → Bool) → ((k : K) → p k ≡ q k) → (es : List (K × V))
+    → lookup p es ≡ lookup q es
+lookup_same p q same [] = refl
+lookup_same p q same (e ∷ es) = rw (same e.0, lookup_same p q same es) refl
+
+-- what a look-up by the order finds is what the index has
+pub at_key : (names : Names) (s : ℕ) (x : List ℕ)
+    → lookup (λ k. is_eq (ordering_then (nat_cmp s k.0) (slice_cmp nat_cmp x k.1.now))) names.first.entries
+    ≡ known_at names s x
+unfolding known_at
+at_key names s x = lookup_same _ _ (λ k. equal_keys s x k.0 k.1.now) names.first.entries

@@ -3,7 +3,7 @@ use Rattle.std.specs.Prelude.{◌≡◌, ℕ, ◌+◌, Bool, true, ◌&&◌, ◌
 use Rattle.std.specs.Prelude.{Option, option_map, nat_eq, if◌then◌else◌}
 use Rattle.std.specs.Str.{bytes_eq}
 use Rattle.std.specs.List.{find}
-use Rattle.std.specs.HashMap.{get_by}
+use Rattle.std.specs.Map.{lookup}
 use Rattle.gta_types.specs.declared.declaring.Declared.{Declared}
 use Rattle.gta_types.specs.declared.declaring.NameKind.{NameKind}
 use Rattle.gta_types.specs.declared.names.Found.{Found}
@@ -37,7 +37,7 @@ first_in all scope x = option_map found_of (find (is_named scope x) all)
 
 -- what an index has at a name in a scope
 unfoldable pub known_at : Names → ℕ → List ℕ → Option Found
-known_at names scope x = get_by (λ k. nat_eq scope k.0 && bytes_eq x k.1.now) names.first
+known_at names scope x = lookup (λ k. nat_eq scope k.0 && bytes_eq x k.1.now) names.first.entries
 
 -- the index of the first declarations
 abbrev pub IsIndex : Names → List Declaration → Type 0
@@ -81,5 +81,4 @@ wanted_of wants.Column = Column
 wanted_of wants.Label = Label
 wanted_of wants.Weight = Weight
 wanted_of wants.TableName = TableName
-wanted_of (wants.ElementOf table) = ElementOf table.now
 wanted_of (wants.OneOf names) = OneOf names.now

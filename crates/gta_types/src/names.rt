@@ -9,7 +9,7 @@ ghost use Rattle.gta_types.specs.Index.{known_at};
 use crate::declaring::NameKind;
 use gta_text::Name;
 use std::alloc::{AllocError, Global};
-use std::collections::HashMap;
+use std::collections::BTreeMap;
 
 /// What a name was first declared as, and the line that does so.
 #[derive(Clone, Copy)]
@@ -25,10 +25,11 @@ pub(crate) struct Place<'a> {
     pub(crate) name: &'a Name,
 }
 
-/// The first declarations, by scope and name. The elements of a table have a scope of their own.
+/// The first declarations, in the order of scopes and names, so that a look-up takes few steps however names are chosen.
+/// The elements of a table have a scope of their own.
 #[derive(Drop)]
 pub(crate) struct Names<'a> {
-    pub(crate) first: HashMap<(u64, &'a [u8]), Found>,
+    pub(crate) first: BTreeMap<(u64, &'a [u8]), Found>,
 }
 
 impl<'a> Names<'a> {
@@ -37,7 +38,7 @@ impl<'a> Names<'a> {
         ensures { (s : ℕ) (x : List ℕ) → known_at result s x ≡ None }
     {
         Names {
-            first: HashMap::new(alloc),
+            first: BTreeMap::new(alloc),
         }
     }
 

@@ -1,12 +1,12 @@
 //! The names that the lines use, looked up in the order of the lines.
 
-ghost use Rattle.std.specs.Prelude.{◌≡◌, [], ◌∷◌, map, option_map};
+ghost use Rattle.std.specs.Prelude.{◌≡◌, ℕ, List, [], ◌∷◌, map, option_map};
 ghost use Rattle.std.specs.List.{flat_map};
 ghost use Rattle.gta_spec.specs.Parts.{case_tree, pick_tree, test_tree, times_tree, kind_tree, part_tree, Fold, Times};
 ghost use Rattle.gta_types.specs.Names.{use_as, uses_of_term, use_of_atom, uses_of_case, uses_of_pick};
 ghost use Rattle.gta_types.specs.Names.{uses_of_test, uses_of_goal, uses_of, uses, is_of, ElementOf};
 ghost use Rattle.spec_tables.specs.Tables.{is_one_of};
-ghost use Rattle.gta_types.specs.Index.{place, known_by, has_element, unknown_in, wanted_of};
+ghost use Rattle.gta_types.specs.Index.{place, known_at, known_by, has_element, unknown_in, wanted_of};
 
 use crate::declaring::NameKind;
 use crate::names::{Found, Names, Place};
@@ -22,7 +22,6 @@ pub(crate) enum Wanted<'a> {
     Label,
     Weight,
     TableName,
-    ElementOf(&'a Name),
     OneOf(&'a [Name]),
 }
 
@@ -69,7 +68,6 @@ fn is_known<'a>(names: &Names<'a>, wanted: Wanted<'a>, name: &'a Name) -> bool
             is_kind(found, NameKind::AColumn) || is_kind(found, NameKind::AMeasure)
         }
         Wanted::TableName => is_kind(names.look(0, name.bytes()), NameKind::ATable),
-        Wanted::ElementOf(table) => has_element(names, names.look(0, table.bytes()), name),
         Wanted::OneOf(others) => is_one_of(others, name),
     }
 }
@@ -84,6 +82,23 @@ fn unknown<'a>(
         ≡ unknown_in names.now (use_as line (wanted_of wanted.entry) name.now ∷ []) }
 {
     if is_known(names, wanted, name) {
+        None
+    } else {
+        Some(Place { line, name })
+    }
+}
+
+/// The name, where it is no element of the table that the index has so.
+fn unknown_element<'a>(
+    names: &Names<'a>,
+    line: u32,
+    table: Option<Found>,
+    name: &'a Name,
+) -> Option<Place<'a>>
+    ensures { (of : List ℕ) → known_at names.now 0 of ≡ table → option_map place result
+        ≡ unknown_in names.now (use_as line (ElementOf of) name.now ∷ []) }
+{
+    if has_element(names, table, name) {
         None
     } else {
         Some(Place { line, name })
@@ -159,13 +174,13 @@ fn in_cases<'a>(names: &Names<'a>, line: u32, cases: &'a [CasePart]) -> Option<P
 fn in_pick<'a>(
     names: &Names<'a>,
     line: u32,
-    table: &'a Name,
+    table: Option<Found>,
     pick: &'a PickPart,
 ) -> Option<Place<'a>>
-    ensures { option_map place result
-        ≡ unknown_in names.now (uses_of_pick line table.now (pick_tree pick.now)) }
+    ensures { (of : List ℕ) → known_at names.now 0 of ≡ table → option_map place result
+        ≡ unknown_in names.now (uses_of_pick line of (pick_tree pick.now)) }
 {
-    let found = unknown(names, line, Wanted::ElementOf(table), &pick.element);
+    let found = unknown_element(names, line, table, &pick.element);
     if found.is_some() {
         return found;
     }
@@ -175,11 +190,11 @@ fn in_pick<'a>(
 fn in_picks<'a>(
     names: &Names<'a>,
     line: u32,
-    table: &'a Name,
+    table: Option<Found>,
     picks: &'a [PickPart],
 ) -> Option<Place<'a>>
-    ensures { option_map place result
-        ≡ unknown_in names.now (flat_map (uses_of_pick line table.now) (map pick_tree picks.now)) }
+    ensures { (of : List ℕ) → known_at names.now 0 of ≡ table → option_map place result
+        ≡ unknown_in names.now (flat_map (uses_of_pick line of) (map pick_tree picks.now)) }
 {
     for pick in picks {
         let found = in_pick(names, line, table, pick);
@@ -193,14 +208,14 @@ fn in_picks<'a>(
 fn in_elements<'a>(
     names: &Names<'a>,
     line: u32,
-    table: &'a Name,
+    table: Option<Found>,
     elements: &'a [Name],
 ) -> Option<Place<'a>>
-    ensures { option_map place result
-        ≡ unknown_in names.now (map (use_as line (ElementOf table.now)) elements.now) }
+    ensures { (of : List ℕ) → known_at names.now 0 of ≡ table → option_map place result
+        ≡ unknown_in names.now (map (use_as line (ElementOf of)) elements.now) }
 {
     for element in elements {
-        let found = unknown(names, line, Wanted::ElementOf(table), element);
+        let found = unknown_element(names, line, table, element);
         if found.is_some() {
             return found;
         }
@@ -222,11 +237,13 @@ fn in_fold<'a>(
     if found.is_some() {
         return found;
     }
-    let found_pick = in_picks(names, line, table, picks);
+    // The table is looked up once: its name may be long, and its elements many.
+    let of = names.look(0, table.bytes());
+    let found_pick = in_picks(names, line, of, picks);
     if found_pick.is_some() {
         return found_pick;
     }
-    in_elements(names, line, table, accept)
+    in_elements(names, line, of, accept)
 }
 
 fn in_test<'a>(names: &Names<'a>, line: u32, test: &'a TestPart) -> Option<Place<'a>>
@@ -263,11 +280,12 @@ fn in_times<'a>(names: &Names<'a>, line: u32, times: &'a TimesPart) -> Option<Pl
     if found.is_some() {
         return found;
     }
-    let found_element = unknown(names, line, Wanted::ElementOf(&times.table), &times.element);
+    let of = names.look(0, times.table.bytes());
+    let found_element = unknown_element(names, line, of, &times.element);
     if found_element.is_some() {
         return found_element;
     }
-    in_elements(names, line, &times.table, times.products.as_slice())
+    in_elements(names, line, of, times.products.as_slice())
 }
 
 fn in_part<'a>(names: &Names<'a>, line: u32, kind: &'a PartKind) -> Option<Place<'a>>

@@ -1,4 +1,5 @@
 pub mod Fronts
+pub mod Lines
 pub mod NumberOf
 pub mod Rows
 pub mod Told

@@ -18,7 +18,7 @@ use Rattle.gta_spec.specs.declared.parts.TablePart.{TablePart}
 use Rattle.gta_spec.specs.WellFormed.{EachFits}
 use Rattle.gta_spec.specs.Parts.{PartTree, TableTree, part_tree, kind_tree, table_tree}
 use Rattle.spec_tables.proofs.Fronts.{map_take_next, split_at, take_next}
-use Rattle.spec_tables.specs.Tables.{number_of, is_one_of, only_one, option_list, numbers_in, numbers_if, row_of, products_of, products_on, products_by_number, table_parts, tables_in}
+use Rattle.spec_tables.specs.Tables.{number_of, is_one_of, only_one, option_list, numbers_in, numbers_if, row_of, products_of, products_by_number, table_parts, tables_in}
 use Rattle.spec_tables.specs.Faults.{not_square_at}
 
 by_test : {A : Type 0} (b : Bool) → (b ≡ true → A) → (b ≡ false → A) → A
@@ -71,18 +71,6 @@ pub only_one-second : {A : Type 0} (front back : List A) (found : Option A) (x :
     → front ≡ option_list found → only_one (front ++ x ∷ back) ≡ None
 only_one-second front back None x some is = absurd (let h : false ≡ true = some in cc)
 only_one-second front back (Some y) x some is = rw is refl
-
--- the lines before a line, the line, and those behind it
-pub products_of-split : (parts : List Part) (i : ℕ) (d : Part) (table element : List ℕ) → i < length parts
-    → d ≡ get_or parts i d
-    → products_of (map part_tree parts) table element
-    ≡ products_of (map part_tree (take i parts)) table element
-    ++ (products_on table element (kind_tree d.kind) ++ products_of (map part_tree (drop (i + 1) parts)) table element)
-products_of-split parts i d table element below is =
-    let on : PartTree → List (List (List ℕ)) = λ part. products_on table element part.kind in
-    ap (λ (ps : List Part). flat_map on (map part_tree ps)) (split_at parts i d below is)
-    ∙ ap (flat_map on) (map-append part_tree (take i parts) (d ∷ drop (i + 1) parts))
-    ∙ flat_map-append on (map part_tree (take i parts)) (map part_tree (d ∷ drop (i + 1) parts))
 
 pub some_mapped : {A B : Type 0} (f : A → B) (found : Option A) → is_some found ≡ true → is_some (option_map f found) ≡ true
 some_mapped f None some = some

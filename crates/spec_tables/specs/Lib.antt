@@ -1,4 +1,5 @@
 pub mod Tables
 pub mod Faults
+pub mod Lines
 pub mod Ready
 pub mod Checked

@@ -1,7 +1,8 @@
 use Rattle.std.proofs.Common.{◌≡◌, ◌<◌, ◌++◌, List, ℕ, None, Some, map, length, get_or, sym, ap, ◌∙◌}
-use Rattle.gta_spec.specs.Parts.{part_tree, table_tree}
+use Rattle.gta_spec.specs.Parts.{part_tree, table_tree, times_tree}
 use Rattle.spec_tables.specs.Tables.{row_of}
 use Rattle.spec_tables.proofs.Rows.{not_square_here, square_further, cells_further}
+use Rattle.spec_tables.proofs.Lines.{row_on-lines_of}
 use Rattle.spec_tables.proofs.products.cells_of.Goals as goal
 
 pub returns-in-None : goal.returns-in-None
@@ -12,7 +13,10 @@ returns-in-None c =
     let below : c.loop-number.number < length table.elements = rw same at c.loop-number-test.true in
     let is : c.element-item.result ≡ get_or table.elements c.loop-number.number c.element-item.result =
     rw same at c.element-item.is in
-    let none : row_of parts table c.element-item.result ≡ None = rw c.in-None.is at (sym c.in_ok-row.ensures) in (
+    let known = row_on-lines_of (map (λ line. times_tree line.now) c.as_slice.result.now) parts table
+        c.element-item.result (ap (map (λ line. times_tree line.now)) c.as_slice.ensures.value ∙ c.in_ok-lines.ensures) in
+    let none : row_of parts table c.element-item.result ≡ None =
+    sym known ∙ rw c.in-None.is at (sym c.in_ok-row.ensures) in (
       below,
       not_square_here parts table c.loop-number.number c.element-item.result below is
           c.loop-number.invariant.square none,
@@ -26,8 +30,10 @@ loop-number-preserved c =
     let below : c.loop-number.number < length table.elements = rw same at c.loop-number-test.true in
     let is : c.element-item.result ≡ get_or table.elements c.loop-number.number c.element-item.result =
     rw same at c.element-item.is in
+    let known = row_on-lines_of (map (λ line. times_tree line.now) c.as_slice.result.now) parts table
+        c.element-item.result (ap (map (λ line. times_tree line.now)) c.as_slice.ensures.value ∙ c.in_ok-lines.ensures) in
     let there : row_of parts table c.element-item.result ≡ Some c.in-Some.row.items =
-    rw c.in-Some.is at (sym c.in_ok-row.ensures) in
+    sym known ∙ rw c.in-Some.is at (sym c.in_ok-row.ensures) in
     record {
       square = square_further parts table c.loop-number.number c.element-item.result below is
           c.loop-number.invariant.square c.in-Some.row.items there;
