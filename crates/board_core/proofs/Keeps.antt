@@ -1,6 +1,7 @@
 -- Every call keeps a sound board sound, and so does every list of calls.
 -- What a board shared by several callers needs of this stands at the end.
-use Rattle.std.proofs.Common.{◌≡◌, ℕ, ◌<◌, ◌≤◌, ◌∙◌, true, false, List, [], ◌∷◌, ◌++◌, length, ap, sym, refl, subst, arith}
+use Rattle.std.proofs.Common.{◌≡◌, ℕ, ◌<◌, ◌≤◌, ◌∙◌, true, false, List, [], ◌∷◌, ◌++◌, length, ap, sym, refl, subst}
+use Rattle.std.proofs.Common.{arith}
 use Rattle.std.specs.Prelude.{Some, None, MatchOption}
 use Rattle.interval_kit.specs.declared.piece.Piece.{Piece}
 use Rattle.board_core.specs.declared.event.Logged.{Logged}
@@ -11,8 +12,12 @@ use Rattle.board_core.specs.declared.taken.CoreOffered.TheVariants as offered
 use Rattle.board_core.specs.declared.taken.CoreClaimed.{CoreClaimed}
 use Rattle.board_core.specs.declared.taken.CoreClaimed.TheVariants as claimed
 use Rattle.board_core.specs.Ordered.{Each}
-use Rattle.board_core.specs.Board.{offer_entry, claim_entry, settle_entry, put_back_entry, PlainBoard, empty, noted, free, is_clear, first_pair, IsClaim, piece_at, pair_of, put_piece, put_claim, claim_of, without_claim, without_pair, with_offer, with_claim, with_settle, with_put_back}
-use Rattle.board_core.specs.Calls.{Call, IsStep, Lead, Offers, Claims, IsDetermined, entry_made, offer, claim, settle, put_back}
+use Rattle.board_core.specs.Board.{offer_entry, claim_entry, settle_entry, put_back_entry, PlainBoard, empty, noted}
+use Rattle.board_core.specs.Board.{free, is_clear, first_pair, IsClaim, piece_at, pair_of, put_piece, put_claim}
+use Rattle.board_core.specs.Board.{claim_of, without_claim, without_pair, with_offer, with_claim, with_settle}
+use Rattle.board_core.specs.Board.{with_put_back}
+use Rattle.board_core.specs.Calls.{Call, IsStep, Lead, Offers, Claims, IsDetermined, entry_made, offer, claim, settle}
+use Rattle.board_core.specs.Calls.{put_back}
 use Rattle.board_core.specs.Replay.{Bare, gap, after, MayFollow, claims_by, claims_of}
 use Rattle.board_core.specs.Sound.{bare, IsTidy, IsSound, IsSoundFor, HasStanding, Brings, EveryBoardIsSound}
 use Rattle.board_core.proofs.OrderedLemmas.{each_put}
@@ -65,7 +70,8 @@ module _ {W : Type 0} where
         (tidy_claim b sound.tidy t found room) (
           refl,
           pair_blank b.held t.left t.right found
-              ∙ ap (λ from. Some (both_gaps t.left.lo t.left.hi from t.right.hi)) (sym (pair_adjoins b.held t.left t.right found)),
+              ∙ ap (λ from. Some (both_gaps t.left.lo t.left.hi from t.right.hi))
+              (sym (pair_adjoins b.held t.left t.right found)),
           room,
           refl,
         )
@@ -92,7 +98,8 @@ module _ {W : Type 0} where
 
     pub offers_sound : (who : ℕ) (p : Piece W) (answer : CoreOffered W) (d : PlainBoard W) → p.lo < p.hi → p.hi ≤ b.rows
         → Offers b who p answer d → IsSound d
-    offers_sound who p offered.Kept d nonempty within step = moved d (with_offer b who p) step.2 (sound_offer who p nonempty within step.0 step.1)
+    offers_sound who p offered.Kept d nonempty within step = moved d (with_offer b who p) step.2
+        (sound_offer who p nonempty within step.0 step.1)
     offers_sound who p (offered.Overlaps q) d nonempty within step = moved d b step.2 sound
     offers_sound who p (offered.Full q) d nonempty within step = moved d b step.3 sound
 
@@ -125,14 +132,20 @@ module _ {W : Type 0} where
   pub offers_one : (b : PlainBoard W) (who : ℕ) (p : Piece W) (x y : CoreOffered W) (d m : PlainBoard W)
       → Offers b who p x d → Offers b who p y m → (x ≡ y) × (d ≡ m)
   offers_one b who p offered.Kept offered.Kept d m one two = (refl, one.2 ∙ sym two.2)
-  offers_one b who p offered.Kept (offered.Overlaps q) d m one two = absurd (let no : true ≡ false = sym one.0 ∙ two.0 in cc)
+  offers_one b who p offered.Kept (offered.Overlaps q) d m one two = absurd
+      (let no : true ≡ false = sym one.0 ∙ two.0 in cc)
   offers_one b who p offered.Kept (offered.Full q) d m one two = absurd (omega (arith, one.1, two.1))
-  offers_one b who p (offered.Overlaps q) offered.Kept d m one two = absurd (let no : true ≡ false = sym two.0 ∙ one.0 in cc)
-  offers_one b who p (offered.Overlaps q) (offered.Overlaps r) d m one two = (ap (λ x. offered.Overlaps x) (one.1 ∙ sym two.1), one.2 ∙ sym two.2)
-  offers_one b who p (offered.Overlaps q) (offered.Full r) d m one two = absurd (let no : true ≡ false = sym two.0 ∙ one.0 in cc)
+  offers_one b who p (offered.Overlaps q) offered.Kept d m one two = absurd
+      (let no : true ≡ false = sym two.0 ∙ one.0 in cc)
+  offers_one b who p (offered.Overlaps q) (offered.Overlaps r) d m one two =
+      (ap (λ x. offered.Overlaps x) (one.1 ∙ sym two.1), one.2 ∙ sym two.2)
+  offers_one b who p (offered.Overlaps q) (offered.Full r) d m one two = absurd
+      (let no : true ≡ false = sym two.0 ∙ one.0 in cc)
   offers_one b who p (offered.Full q) offered.Kept d m one two = absurd (omega (arith, one.1, two.1))
-  offers_one b who p (offered.Full q) (offered.Overlaps r) d m one two = absurd (let no : true ≡ false = sym one.0 ∙ two.0 in cc)
-  offers_one b who p (offered.Full q) (offered.Full r) d m one two = (ap (λ x. offered.Full x) (one.2 ∙ sym two.2), one.3 ∙ sym two.3)
+  offers_one b who p (offered.Full q) (offered.Overlaps r) d m one two = absurd
+      (let no : true ≡ false = sym one.0 ∙ two.0 in cc)
+  offers_one b who p (offered.Full q) (offered.Full r) d m one two =
+      (ap (λ x. offered.Full x) (one.2 ∙ sym two.2), one.3 ∙ sym two.3)
 
   taken_is : (b : PlainBoard W) (who : ℕ) (t u : Taken W) → t.who ≡ who → u.who ≡ who
       → Some (both t.left t.right) ≡ Some (both u.left u.right) → t ≡ u
@@ -146,13 +159,17 @@ module _ {W : Type 0} where
   claims_one b who (claimed.Pair t) (claimed.Pair u) d m one two =
       let same : t ≡ u = taken_is b who t u one.0 two.0 (sym one.1 ∙ two.1) in
       (ap (λ v. claimed.Pair v) same, one.3 ∙ ap (λ v. with_claim b v) same ∙ sym two.3)
-  claims_one b who (claimed.Pair t) claimed.NoPair d m one two = absurd (let clash : Some (both t.left t.right) ≡ None = sym one.1 ∙ two.0 in cc)
+  claims_one b who (claimed.Pair t) claimed.NoPair d m one two = absurd
+      (let clash : Some (both t.left t.right) ≡ None = sym one.1 ∙ two.0 in cc)
   claims_one b who (claimed.Pair t) claimed.Full d m one two = absurd (omega (arith, one.2, two.2))
-  claims_one b who claimed.NoPair (claimed.Pair t) d m one two = absurd (let clash : Some (both t.left t.right) ≡ None = sym two.1 ∙ one.0 in cc)
+  claims_one b who claimed.NoPair (claimed.Pair t) d m one two = absurd
+      (let clash : Some (both t.left t.right) ≡ None = sym two.1 ∙ one.0 in cc)
   claims_one b who claimed.NoPair claimed.NoPair d m one two = (refl, one.1 ∙ sym two.1)
-  claims_one b who claimed.NoPair claimed.Full d m one two = absurd (let clash : Some two.0 ≡ None = sym two.1 ∙ one.0 in cc)
+  claims_one b who claimed.NoPair claimed.Full d m one two = absurd
+      (let clash : Some two.0 ≡ None = sym two.1 ∙ one.0 in cc)
   claims_one b who claimed.Full (claimed.Pair t) d m one two = absurd (omega (arith, one.2, two.2))
-  claims_one b who claimed.Full claimed.NoPair d m one two = absurd (let clash : Some one.0 ≡ None = sym one.1 ∙ two.0 in cc)
+  claims_one b who claimed.Full claimed.NoPair d m one two = absurd
+      (let clash : Some one.0 ≡ None = sym one.1 ∙ two.0 in cc)
   claims_one b who claimed.Full claimed.Full d m one two = (refl, one.3 ∙ sym two.3)
 
   pub is_determined : IsDetermined W
@@ -160,10 +177,12 @@ module _ {W : Type 0} where
 
   module _ (stands : ℕ → ℕ → W → Type 0) where
     stand_moved : (d m : PlainBoard W) → d ≡ m → Each (HasStanding stands) m.held → Each (HasStanding stands) d.held
-    stand_moved d m same all = let P : PlainBoard W → Type 0 = λ x. Each (HasStanding stands) x.held in subst P (sym same) all
+    stand_moved d m same all = let P : PlainBoard W
+        → Type 0 = λ x. Each (HasStanding stands) x.held in subst P (sym same) all
 
     -- held values stand if they did and those that come in do
-    pub step_stands : (b : PlainBoard W) (call : Call W) (d : PlainBoard W) → Each (HasStanding stands) b.held → Brings stands call
+    pub step_stands : (b : PlainBoard W) (call : Call W) (d : PlainBoard W) → Each (HasStanding stands) b.held
+        → Brings stands call
         → IsStep b call d → Each (HasStanding stands) d.held
     step_stands b (offer who p offered.Kept) d all new step =
         stand_moved d (with_offer b who p) step.2.2 (each_put (λ q. q.lo) p (HasStanding stands) b.held new all)
@@ -174,24 +193,28 @@ module _ {W : Type 0} where
     step_stands b (claim who claimed.NoPair) d all new step = stand_moved d b step.1 all
     step_stands b (claim who claimed.Full) d all new step = stand_moved d b step.3 all
     step_stands b (settle t value) d all new step =
-        stand_moved d (with_settle b t value) step.1 (each_put (λ q. q.lo) (piece_at t.left.lo t.right.hi value) (HasStanding stands) b.held new all)
+        stand_moved d (with_settle b t value) step.1
+        (each_put (λ q. q.lo) (piece_at t.left.lo t.right.hi value) (HasStanding stands) b.held new all)
     step_stands b (put_back t) d all new step =
         stand_moved d (with_put_back b t) step.1
         (each_put (λ q. q.lo) t.left (HasStanding stands) (put_piece t.right b.held) new.0
         (each_put (λ q. q.lo) t.right (HasStanding stands) b.held new.1 all))
 
     -- the values of a pair stand
-    pub pair_stands : (b : PlainBoard W) (t : Taken W) → Each (HasStanding stands) b.held → first_pair b.held ≡ Some (t.left, t.right)
+    pub pair_stands : (b : PlainBoard W) (t : Taken W) → Each (HasStanding stands) b.held
+        → first_pair b.held ≡ Some (t.left, t.right)
         → HasStanding stands t.left × HasStanding stands t.right
     pair_stands b t all found = each_pair b.held t.left t.right found (HasStanding stands) all
 
-    pub step_keeps : (b : PlainBoard W) (call : Call W) (d : PlainBoard W) → IsSoundFor stands b → Brings stands call → IsStep b call d → IsSoundFor stands d
+    pub step_keeps : (b : PlainBoard W) (call : Call W) (d : PlainBoard W) → IsSoundFor stands b → Brings stands call
+        → IsStep b call d → IsSoundFor stands d
     step_keeps b call d held new step = record {
       sound = step_sound b held.sound call d step;
       stand = step_stands b call d held.stand new step;
     }
 
-    pub lead_keeps : (b : PlainBoard W) (calls : List (Call W)) (d : PlainBoard W) → IsSoundFor stands b → Each (Brings stands) calls → Lead b calls d
+    pub lead_keeps : (b : PlainBoard W) (calls : List (Call W)) (d : PlainBoard W) → IsSoundFor stands b
+        → Each (Brings stands) calls → Lead b calls d
         → IsSoundFor stands d
     lead_keeps b [] d held new led = let P : PlainBoard W → Type 0 = λ x. IsSoundFor stands x in subst P (sym led) held
     lead_keeps b (call ∷ calls) d held new led =

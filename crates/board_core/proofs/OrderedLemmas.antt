@@ -1,6 +1,7 @@
 -- What putting an element into a list in order, and leaving one out, do to sums,
 -- to what holds of each element, to the order and to images. Of any list.
-use Rattle.std.proofs.Common.{◌≡◌, ◌≢◌, ℕ, ◌+◌, ◌<◌, ◌∙◌, Bool, true, false, ◌||◌, cond, nat_le, List, [], ◌∷◌, ◌++◌, length, map, ap, sym, refl, subst, arith}
+use Rattle.std.proofs.Common.{◌≡◌, ◌≢◌, ℕ, ◌+◌, ◌<◌, ◌∙◌, Bool, true, false, ◌||◌, cond, nat_le, List, [], ◌∷◌, ◌++◌}
+use Rattle.std.proofs.Common.{length, map, ap, sym, refl, subst, arith}
 use Rattle.std.specs.Prelude.{sum_by}
 use Rattle.std.specs.List.{list_any}
 use Rattle.std.proofs.lemmas.Bool.Decides.{nat_tests}
@@ -27,15 +28,18 @@ module _ {A : Type 0} where
   zero_from_each f (x ∷ xs) none = omega (arith, sum_by-cons f x xs, zero_from_each f xs none.1, none.0)
 
   -- two neighbours in a list, and the list around them
-  pub each_middle : (P : A → Type 0) (before : List A) (x y : A) (behind : List A) → Each P (before ++ x ∷ y ∷ behind) → P x × P y
+  pub each_middle : (P : A → Type 0) (before : List A) (x y : A) (behind : List A)
+      → Each P (before ++ x ∷ y ∷ behind) → P x × P y
   each_middle P [] x y behind all = (all.0, all.1.0)
   each_middle P (z ∷ before) x y behind all = each_middle P before x y behind all.1
 
-  pub each_around : (P : A → Type 0) (before : List A) (x y : A) (behind : List A) → Each P (before ++ x ∷ y ∷ behind) → Each P (before ++ behind)
+  pub each_around : (P : A → Type 0) (before : List A) (x y : A) (behind : List A)
+      → Each P (before ++ x ∷ y ∷ behind) → Each P (before ++ behind)
   each_around P [] x y behind all = all.1.1
   each_around P (z ∷ before) x y behind all = (all.0, each_around P before x y behind all.1)
 
-  pub rising_around : (key : A → ℕ) (before : List A) (x y : A) (behind : List A) → IsRisingBy key (before ++ x ∷ y ∷ behind) → IsRisingBy key (before ++ behind)
+  pub rising_around : (key : A → ℕ) (before : List A) (x y : A) (behind : List A)
+      → IsRisingBy key (before ++ x ∷ y ∷ behind) → IsRisingBy key (before ++ behind)
   rising_around key [] x y behind up = up.1.1
   rising_around key (z ∷ before) x y behind up =
       (each_around (λ w. key z < key w) before x y behind up.0, rising_around key before x y behind up.1)
@@ -84,7 +88,8 @@ module _ {A : Type 0} where
     map_put other f same (y ∷ ys) =
         ap (λ t. map f (cond t (x ∷ y ∷ ys) (y ∷ put_by key x ys))) tests
         ∙ elim (nat_le (other (f x)) (other (f y)))
-        as (λ t. map f (cond t (x ∷ y ∷ ys) (y ∷ put_by key x ys)) ≡ cond t (f x ∷ f y ∷ map f ys) (f y ∷ put_by other (f x) (map f ys)))
+        as (λ t. map f (cond t (x ∷ y ∷ ys) (y ∷ put_by key x ys)) ≡ cond t (f x ∷ f y ∷ map f ys)
+        (f y ∷ put_by other (f x) (map f ys)))
         [ true ↦ refl | false ↦ ap (λ zs. f y ∷ zs) (map_put other f same ys) ]
       where
         tests : nat_le (key x) (key y) ≡ nat_le (other (f x)) (other (f y))
@@ -105,13 +110,16 @@ module _ {A : Type 0} where
 
     -- where the test is passed by one value alone, that value is what is left out
     module _ (value : A) (is_value : (x : A) → test x ≡ true → x ≡ value) where
-      pub sum_without : (f : A → ℕ) (xs : List A) → list_any test xs ≡ true → sum_by f xs ≡ f value + sum_by f (without test xs)
+      pub sum_without : (f : A → ℕ) (xs : List A) → list_any test xs ≡ true
+          → sum_by f xs ≡ f value + sum_by f (without test xs)
       sum_without f [] found = cc
       sum_without f (x ∷ xs) found =
           (elim (test x)
-          as (λ t. test x ≡ t → (t || list_any test xs) ≡ true → sum_by f (x ∷ xs) ≡ f value + sum_by f (cond t xs (x ∷ without test xs))) [
+          as (λ t. test x ≡ t → (t || list_any test xs) ≡ true
+          → sum_by f (x ∷ xs) ≡ f value + sum_by f (cond t xs (x ∷ without test xs))) [
             | true ↦ λ passes here. sum_by-cons f x xs ∙ ap (λ y. f y + sum_by f xs) (is_value x passes)
-            | false ↦ λ fails here. omega (arith, sum_by-cons f x xs, sum_by-cons f x (without test xs), sum_without f xs here)
+            | false ↦ λ fails here. omega
+                (arith, sum_by-cons f x xs, sum_by-cons f x (without test xs), sum_without f xs here)
           ])
           refl found
 

@@ -1,6 +1,7 @@
 -- Rows and intervals: which rows an interval has, which intervals are clear of one another,
 -- and what the first pair of the held pieces is.
-use Rattle.std.proofs.Common.{◌≡◌, ◌≢◌, ℕ, ◌+◌, ◌<◌, ◌≤◌, ◌∙◌, Bool, true, false, ◌&&◌, ◌||◌, ◌==◌, cond, nat_le, List, [], ◌∷◌, ◌++◌, length, ap, sym, refl, subst, arith, length-append}
+use Rattle.std.proofs.Common.{◌≡◌, ◌≢◌, ℕ, ◌+◌, ◌<◌, ◌≤◌, ◌∙◌, Bool, true, false, ◌&&◌, ◌||◌, ◌==◌, cond, nat_le}
+use Rattle.std.proofs.Common.{List, [], ◌∷◌, ◌++◌, length, ap, sym, refl, subst, arith, length-append}
 use Rattle.std.specs.Prelude.{sum_by, Some}
 use Rattle.std.specs.List.{list_any, list_all}
 use Rattle.std.proofs.lemmas.Bool.Decides.{nat_tests}
@@ -8,9 +9,11 @@ use Rattle.std.proofs.lemmas.List.Sums.{sum_by-cons, sum_by-append}
 use Rattle.interval_kit.specs.declared.piece.Piece.{Piece}
 use Rattle.board_core.specs.declared.taken.Claim.{Claim}
 use Rattle.board_core.specs.Ordered.{Each, IsRisingBy}
-use Rattle.board_core.specs.Board.{claim_at, apart, is_same, put_claim, without_claim, pair_from, first_pair, rest_from, without_pair}
+use Rattle.board_core.specs.Board.{claim_at, apart, is_same, put_claim, without_claim, pair_from, first_pair}
+use Rattle.board_core.specs.Board.{rest_from, without_pair}
 use Rattle.board_core.specs.Sound.{covers}
-use Rattle.board_core.proofs.OrderedLemmas.{each_map, each_both, each_from_zero, zero_from_each, sum_without, length_without, each_at, each_middle, each_around, rising_around}
+use Rattle.board_core.proofs.OrderedLemmas.{each_map, each_both, each_from_zero, zero_from_each, sum_without}
+use Rattle.board_core.proofs.OrderedLemmas.{length_without, each_at, each_middle, each_around, rising_around}
 
 or_right : (s t : Bool) → t ≡ true → (s || t) ≡ true
 or_right s t h = elim s as (λ v. (v || t) ≡ true) [ true ↦ refl | false ↦ h ]
@@ -61,7 +64,8 @@ same_claim c d who lo mid hi =
     ∙ ap (λ n. claim_at d.who d.lo n c.hi) mid ∙ ap (λ n. claim_at d.who d.lo d.mid n) hi
 
 pub is_same-eq : (c d : Claim) → is_same c d ≡ true → c ≡ d
-is_same-eq c d h = same_claim c d (grind (arith, nat_tests)) (grind (arith, nat_tests)) (grind (arith, nat_tests)) (grind (arith, nat_tests))
+is_same-eq c d h = same_claim c d (grind (arith, nat_tests)) (grind (arith, nat_tests)) (grind (arith, nat_tests))
+    (grind (arith, nat_tests))
 
 module _ (claim : Claim) (claims : List Claim) (is_open : list_any (λ c. is_same c claim) claims ≡ true) where
   pub sum_open : (f : Claim → ℕ) → sum_by f claims ≡ f claim + sum_by f (without_claim claim claims)
@@ -78,10 +82,12 @@ module _ {W : Type 0} where
   both p q = (p, q)
 
   pub left_is : (p q left right : Piece W) → Some (both p q) ≡ Some (both left right) → p ≡ left
-  left_is p q left right h = let same : both p q ≡ both left right = cc in ap (λ (pair : Piece W × Piece W). pair.0) same
+  left_is p q left right h = let same : both p q ≡ both left right = cc in ap (λ (pair : Piece W × Piece W). pair.0)
+      same
 
   pub right_is : (p q left right : Piece W) → Some (both p q) ≡ Some (both left right) → q ≡ right
-  right_is p q left right h = let same : both p q ≡ both left right = cc in ap (λ (pair : Piece W × Piece W). pair.1) same
+  right_is p q left right h = let same : both p q ≡ both left right = cc in ap (λ (pair : Piece W × Piece W). pair.1)
+      same
 
   -- where the first pair stands in the list
   pub record Splits (held rest : List (Piece W)) (left right : Piece W) : Type 0 where
@@ -91,7 +97,8 @@ module _ {W : Type 0} where
     pub remaining : rest ≡ before ++ behind
     pub adjoins : left.hi ≡ right.lo
 
-  pair_from_splits : (p : Piece W) (qs : List (Piece W)) (left right : Piece W) → pair_from p qs ≡ Some (both left right)
+  pair_from_splits : (p : Piece W) (qs : List (Piece W)) (left right : Piece W)
+      → pair_from p qs ≡ Some (both left right)
       → Splits (p ∷ qs) (rest_from p qs) left right
   pair_from_splits p [] left right found = cc
   pair_from_splits p (q ∷ qs) left right found =
@@ -149,7 +156,14 @@ module _ {W : Type 0} where
     pub length_pair : length held ≡ 2 + length (without_pair held)
     length_pair =
         let s : Splits held (without_pair held) left right = split in
-        omega (arith, ap length s.whole, length-append s.before (left ∷ right ∷ s.behind), length-append s.before s.behind, ap length s.remaining)
+        omega (
+          arith,
+          ap length s.whole,
+          length-append s.before (left ∷ right ∷ s.behind),
+          length-append s.before
+              s.behind,
+          ap length s.remaining,
+        )
 
     pub each_pair : (P : Piece W → Type 0) → Each P held → P left × P right
     each_pair P all =
@@ -176,7 +190,8 @@ same_is c = grind (arith, nat_tests)
 pub open_put : (claim : Claim) (claims : List Claim) → list_any (λ c. is_same c claim) (put_claim claim claims) ≡ true
 open_put claim [] = ap (λ t. t || false) (same_is claim)
 open_put claim (d ∷ ds) =
-    elim (nat_le claim.lo d.lo) as (λ t. list_any (λ c. is_same c claim) (cond t (claim ∷ d ∷ ds) (d ∷ put_claim claim ds)) ≡ true) [
+    elim (nat_le claim.lo d.lo) as
+    (λ t. list_any (λ c. is_same c claim) (cond t (claim ∷ d ∷ ds) (d ∷ put_claim claim ds)) ≡ true) [
       | true ↦ ap (λ t. t || list_any (λ c. is_same c claim) (d ∷ ds)) (same_is claim)
       | false ↦ or_right (is_same d claim) (list_any (λ c. is_same c claim) (put_claim claim ds)) (open_put claim ds)
     ]
@@ -186,9 +201,11 @@ pub open_beside : (claim other : Claim) (claims : List Claim) → list_any (λ c
     → list_any (λ c. is_same c claim) (put_claim other claims) ≡ true
 open_beside claim other [] found = cc
 open_beside claim other (d ∷ ds) found =
-    elim (nat_le other.lo d.lo) as (λ t. list_any (λ c. is_same c claim) (cond t (other ∷ d ∷ ds) (d ∷ put_claim other ds)) ≡ true) [
+    elim (nat_le other.lo d.lo) as
+    (λ t. list_any (λ c. is_same c claim) (cond t (other ∷ d ∷ ds) (d ∷ put_claim other ds)) ≡ true) [
       | true ↦ or_right (is_same other claim) (list_any (λ c. is_same c claim) (d ∷ ds)) found
       | false ↦ (elim (is_same d claim)
-          as (λ t. (t || list_any (λ c. is_same c claim) ds) ≡ true → (t || list_any (λ c. is_same c claim) (put_claim other ds)) ≡ true)
+          as (λ t. (t || list_any (λ c. is_same c claim) ds) ≡ true
+          → (t || list_any (λ c. is_same c claim) (put_claim other ds)) ≡ true)
           [ true ↦ λ here. refl | false ↦ λ later. open_beside claim other ds later ]) found
     ]

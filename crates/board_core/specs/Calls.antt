@@ -8,7 +8,8 @@ use Rattle.board_core.specs.declared.taken.CoreOffered.TheVariants as offered
 use Rattle.board_core.specs.declared.taken.CoreClaimed.{CoreClaimed}
 use Rattle.board_core.specs.declared.taken.CoreClaimed.TheVariants as claimed
 use Rattle.board_core.specs.Ordered.{Each}
-use Rattle.board_core.specs.Board.{PlainBoard, offer_entry, claim_entry, settle_entry, put_back_entry, free, is_clear, first_pair, IsClaim, with_offer, with_claim, with_settle, with_put_back}
+use Rattle.board_core.specs.Board.{PlainBoard, offer_entry, claim_entry, settle_entry, put_back_entry, free, is_clear}
+use Rattle.board_core.specs.Board.{first_pair, IsClaim, with_offer, with_claim, with_settle, with_put_back}
 
 module _ {W : Type 0} where
   -- an offer of p by `who` to the board b gives this answer and the board d

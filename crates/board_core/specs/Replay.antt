@@ -10,7 +10,8 @@ use Rattle.board_core.specs.declared.taken.Claim.{Claim}
 use Rattle.board_core.specs.declared.taken.Taken.{Taken}
 use Rattle.board_core.specs.declared.taken.CoreOffered.TheVariants as offered
 use Rattle.board_core.specs.declared.taken.CoreClaimed.TheVariants as claimed
-use Rattle.board_core.specs.Board.{PlainBoard, empty, piece_at, pair_of, claim_at, noted, put_piece, put_claim, without_pair, without_claim}
+use Rattle.board_core.specs.Board.{PlainBoard, empty, piece_at, pair_of, claim_at, noted, put_piece, put_claim}
+use Rattle.board_core.specs.Board.{without_pair, without_claim}
 use Rattle.board_core.specs.Calls.{Call, IsStep, offer, claim, settle, put_back}
 
 -- an interval without a value

@@ -1,5 +1,7 @@
 -- Logs that begin with one another, a log that gains an entry, and lists of views that gain one.
-use Rattle.std.proofs.Common.{◌≡◌, ◌≢◌, ℕ, zero, suc, ◌+◌, ◌<◌, ◌≤◌, ◌==◌, ◌⊎◌, inl, inr, ⊎_elim, Bool, true, false, cond, List, [], ◌∷◌, ◌++◌, length, ap, sym, refl, subst, ◌∙◌, length-append, append_assoc, append-nil, eq-eqb, ne_eqb, arith}
+use Rattle.std.proofs.Common.{◌≡◌, ◌≢◌, ℕ, zero, suc, ◌+◌, ◌<◌, ◌≤◌, ◌==◌, ◌⊎◌, inl, inr, ⊎_elim, Bool, true, false}
+use Rattle.std.proofs.Common.{cond, List, [], ◌∷◌, ◌++◌, length, ap, sym, refl, subst, ◌∙◌, length-append}
+use Rattle.std.proofs.Common.{append_assoc, append-nil, eq-eqb, ne_eqb, arith}
 use Rattle.std.specs.Prelude.{filter}
 use Rattle.std.proofs.lemmas.List.Elements.{filter-append}
 use mathlib.Core.Option.{some, some-injective, some-ne-none}
@@ -16,7 +18,8 @@ module _ {A : Type 0} where
   is_nothing [] none = refl
   is_nothing (x ∷ xs) none = absurd (omega arith)
 
-  pub at_end : (l : List A) (a b : A) (j : ℕ) → get_elem? (l ++ a ∷ []) j ≡ some b → (get_elem? l j ≡ some b) ⊎ ((j ≡ length l) × (a ≡ b))
+  pub at_end : (l : List A) (a b : A) (j : ℕ) → get_elem? (l ++ a ∷ []) j ≡ some b
+      → (get_elem? l j ≡ some b) ⊎ ((j ≡ length l) × (a ≡ b))
   at_end [] a b zero e = inr (refl, some-injective a b e)
   at_end [] a b (suc j) e = absurd (some-ne-none b (sym e))
   at_end (x ∷ xs) a b zero e = inl e
@@ -42,13 +45,15 @@ starts_length a b s =
     let long : length a ≡ length b + length s.0 = ap (λ (log : List Logged). length log) s.1 ∙ length-append b s.0 in
     omega arith
 
-pub entries_other : (n : ℕ) (log : List Logged) (e : Logged) → e.who ≢ n → entries_of n (log ++ e ∷ []) ≡ entries_of n log
+pub entries_other : (n : ℕ) (log : List Logged) (e : Logged) → e.who ≢ n
+    → entries_of n (log ++ e ∷ []) ≡ entries_of n log
 entries_other n log e other =
     let no : (e.who == n) ≡ false = ne_eqb e.who n other in
     filter-append (λ (x : Logged). x.who == n) log (e ∷ [])
     ∙ ap (λ t. entries_of n log ++ cond t (e ∷ []) []) no ∙ append-nil (entries_of n log)
 
-pub entries_own : (n : ℕ) (log : List Logged) (e : Logged) → e.who ≡ n → entries_of n (log ++ e ∷ []) ≡ entries_of n log ++ e ∷ []
+pub entries_own : (n : ℕ) (log : List Logged) (e : Logged) → e.who ≡ n
+    → entries_of n (log ++ e ∷ []) ≡ entries_of n log ++ e ∷ []
 entries_own n log e own =
     let yes : (e.who == n) ≡ true = eq-eqb e.who n own in
     filter-append (λ (x : Logged). x.who == n) log (e ∷ [])
@@ -59,14 +64,17 @@ pub entries_between : (n : ℕ) (log mid seen : List Logged) → StartsWith log 
     → entries_of n log ≡ entries_of n seen → entries_of n mid ≡ entries_of n seen
 entries_between n log mid seen later between same =
     let own : Logged → Bool = λ x. x.who == n in
-    let first : entries_of n mid ≡ entries_of n seen ++ entries_of n between.0 = ap (filter own) between.1 ∙ filter-append own seen between.0 in
-    let whole : entries_of n log ≡ entries_of n mid ++ entries_of n later.0 = ap (filter own) later.1 ∙ filter-append own mid later.0 in
+    let first : entries_of n mid ≡ entries_of n seen ++ entries_of n between.0 = ap (filter own) between.1
+    ∙ filter-append own seen between.0 in
+    let whole : entries_of n log ≡ entries_of n mid ++ entries_of n later.0 = ap (filter own) later.1
+    ∙ filter-append own mid later.0 in
     let a : length (entries_of n mid) ≡ length (entries_of n seen) + length (entries_of n between.0) =
     ap (λ (xs : List Logged). length xs) first ∙ length-append (entries_of n seen) (entries_of n between.0) in
     let b : length (entries_of n log) ≡ length (entries_of n mid) + length (entries_of n later.0) =
     ap (λ (xs : List Logged). length xs) whole ∙ length-append (entries_of n mid) (entries_of n later.0) in
     let c : length (entries_of n log) ≡ length (entries_of n seen) = ap (λ (xs : List Logged). length xs) same in
-    first ∙ ap (λ xs. entries_of n seen ++ xs) (is_nothing (entries_of n between.0) (omega arith)) ∙ append-nil (entries_of n seen)
+    first ∙ ap (λ xs. entries_of n seen ++ xs) (is_nothing (entries_of n between.0) (omega arith))
+    ∙ append-nil (entries_of n seen)
 
 module _ (who : ℕ) (seen log : List Logged) (grows : Grows who seen log) where
   pub grows_starts : StartsWith log seen
@@ -85,12 +93,14 @@ module _ (who : ℕ) (seen log : List Logged) (grows : Grows who seen log) where
       (λ more. ap (claims_of n) more.2 ∙ claims_other n seen more.0 (λ own. other (sym own ∙ more.1)))
       grows
 
-each_and_one : (bound : ℕ) (es : List Logged) (e : Logged) → Each (λ x. x.who < bound) es → e.who < bound → Each (λ x. x.who < bound) (es ++ e ∷ [])
+each_and_one : (bound : ℕ) (es : List Logged) (e : Logged) → Each (λ x. x.who < bound) es → e.who < bound
+    → Each (λ x. x.who < bound) (es ++ e ∷ [])
 each_and_one bound [] e all one = (one, tt)
 each_and_one bound (x ∷ xs) e all one = (all.0, each_and_one bound xs e all.1 one)
 
 -- a history of callers gains an entry of a caller
-pub grows_of_callers : (who bound : ℕ) (seen log : List Logged) → Grows who seen log → who < bound → Each (λ x. x.who < bound) seen
+pub grows_of_callers : (who bound : ℕ) (seen log : List Logged) → Grows who seen log → who < bound
+    → Each (λ x. x.who < bound) seen
     → Each (λ x. x.who < bound) log
 grows_of_callers who bound seen log grows caller all =
     let P : List Logged → Type 0 = λ es. Each (λ x. x.who < bound) es in

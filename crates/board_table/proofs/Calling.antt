@@ -1,5 +1,6 @@
 -- What a call that won the turn makes of its seat, and what it answers.
-use Rattle.std.proofs.Common.{◌≡◌, ℕ, ◌≤◌, ◌==◌, inl, inr, true, false, cond, List, [], ◌∷◌, ◌++◌, ap, sym, refl, subst, ◌∙◌, eqb-true, arith}
+use Rattle.std.proofs.Common.{◌≡◌, ℕ, ◌≤◌, ◌==◌, inl, inr, true, false, cond, List, [], ◌∷◌, ◌++◌, ap, sym, refl}
+use Rattle.std.proofs.Common.{subst, ◌∙◌, eqb-true, arith}
 use Rattle.std.specs.Prelude.{Option, Some, None, IsTrue, IsSomeAnd}
 use Rattle.std.specs.List.{list_any}
 use Rattle.interval_kit.specs.declared.piece.Piece.{Piece}
@@ -11,7 +12,8 @@ use Rattle.board_core.specs.declared.taken.CoreOffered.TheVariants as offered
 use Rattle.board_core.specs.declared.taken.CoreClaimed.{CoreClaimed}
 use Rattle.board_core.specs.declared.taken.CoreClaimed.TheVariants as claimed
 use Rattle.board_core.specs.Ordered.{Each}
-use Rattle.board_core.specs.Board.{PlainBoard, offer_entry, claim_entry, settle_entry, put_back_entry, claim_of, put_claim, without_claim, is_same, IsClaim}
+use Rattle.board_core.specs.Board.{PlainBoard, offer_entry, claim_entry, settle_entry, put_back_entry, claim_of}
+use Rattle.board_core.specs.Board.{put_claim, without_claim, is_same, IsClaim}
 use Rattle.board_core.specs.Calls.{Call, IsStep, Offers, Claims, IsLowestPair, offer, claim, settle, put_back}
 use Rattle.board_core.specs.Replay.{Bare, replay, IsLegal, entries_of, claims_by, claims_of}
 use Rattle.board_core.specs.Sound.{bare, blank, blank_offered, blank_claimed, IsSound, Brings}
@@ -22,7 +24,8 @@ use Rattle.board_core.proofs.MeaningLemmas.{claims_plainly}
 use Rattle.board_core.proofs.Keeps.{step_sound, step_keeps, sound_claims}
 use Rattle.board_table.specs.Seen.{SeatSeen}
 use Rattle.board_table.specs.Changes.{IsBoardOf, HasWon, MayGoHome, Grows, won_seat, done_seat}
-use Rattle.board_table.specs.Answers.{StandsIn, IsWithin, Wins, Adds, Leaves, OfferKept, OfferOverlaps, OfferFull, ClaimPair, ClaimRefused, Ends}
+use Rattle.board_table.specs.Answers.{StandsIn, IsWithin, Wins, Adds, Leaves, OfferKept, OfferOverlaps, OfferFull}
+use Rattle.board_table.specs.Answers.{ClaimPair, ClaimRefused, Ends}
 use Rattle.board_table.proofs.Beginnings.{starts_trans, grows_starts, entries_own}
 
 -- the claims of one number are its own
@@ -30,7 +33,8 @@ each_own : (who : ℕ) (claims : List Claim) → Each (λ (c : Claim). c.who ≡
 each_own who [] = tt
 each_own who (c ∷ cs) =
     (elim (c.who == who)
-    as (λ t. (c.who == who) ≡ t → Each (λ (d : Claim). d.who ≡ who) (cond t (c ∷ claims_by who cs) (claims_by who cs))) [
+    as (λ t. (c.who == who) ≡ t
+    → Each (λ (d : Claim). d.who ≡ who) (cond t (c ∷ claims_by who cs) (claims_by who cs))) [
       | true ↦ λ own. (eqb-true c.who who own, each_own who cs)
       | false ↦ λ other. each_own who cs
     ])
@@ -44,22 +48,32 @@ module _ {W : Type 0} where
   caller (put_back t) = t.who
 
   -- no call changes the rows and the room
-  same_size : (b : PlainBoard W) (call : Call W) (d : PlainBoard W) → IsStep b call d → (d.rows ≡ b.rows) × (d.room ≡ b.room)
-  same_size b (offer who p offered.Kept) d step = (ap (λ (m : PlainBoard W). m.rows) step.2.2, ap (λ (m : PlainBoard W). m.room) step.2.2)
-  same_size b (offer who p (offered.Overlaps q)) d step = (ap (λ (m : PlainBoard W). m.rows) step.2.2, ap (λ (m : PlainBoard W). m.room) step.2.2)
-  same_size b (offer who p (offered.Full q)) d step = (ap (λ (m : PlainBoard W). m.rows) step.2.3, ap (λ (m : PlainBoard W). m.room) step.2.3)
-  same_size b (claim who (claimed.Pair t)) d step = (ap (λ (m : PlainBoard W). m.rows) step.3, ap (λ (m : PlainBoard W). m.room) step.3)
-  same_size b (claim who claimed.NoPair) d step = (ap (λ (m : PlainBoard W). m.rows) step.1, ap (λ (m : PlainBoard W). m.room) step.1)
-  same_size b (claim who claimed.Full) d step = (ap (λ (m : PlainBoard W). m.rows) step.3, ap (λ (m : PlainBoard W). m.room) step.3)
-  same_size b (settle t value) d step = (ap (λ (m : PlainBoard W). m.rows) step.1, ap (λ (m : PlainBoard W). m.room) step.1)
+  same_size : (b : PlainBoard W) (call : Call W) (d : PlainBoard W) → IsStep b call d
+      → (d.rows ≡ b.rows) × (d.room ≡ b.room)
+  same_size b (offer who p offered.Kept) d step =
+      (ap (λ (m : PlainBoard W). m.rows) step.2.2, ap (λ (m : PlainBoard W). m.room) step.2.2)
+  same_size b (offer who p (offered.Overlaps q)) d step =
+      (ap (λ (m : PlainBoard W). m.rows) step.2.2, ap (λ (m : PlainBoard W). m.room) step.2.2)
+  same_size b (offer who p (offered.Full q)) d step =
+      (ap (λ (m : PlainBoard W). m.rows) step.2.3, ap (λ (m : PlainBoard W). m.room) step.2.3)
+  same_size b (claim who (claimed.Pair t)) d step =
+      (ap (λ (m : PlainBoard W). m.rows) step.3, ap (λ (m : PlainBoard W). m.room) step.3)
+  same_size b (claim who claimed.NoPair) d step =
+      (ap (λ (m : PlainBoard W). m.rows) step.1, ap (λ (m : PlainBoard W). m.room) step.1)
+  same_size b (claim who claimed.Full) d step =
+      (ap (λ (m : PlainBoard W). m.rows) step.3, ap (λ (m : PlainBoard W). m.room) step.3)
+  same_size b (settle t value) d step =
+      (ap (λ (m : PlainBoard W). m.rows) step.1, ap (λ (m : PlainBoard W). m.room) step.1)
   same_size b (put_back t) d step = (ap (λ (m : PlainBoard W). m.rows) step.1, ap (λ (m : PlainBoard W). m.room) step.1)
 
   -- a call adds at most one entry, of its caller's number
   step_grows : (b : PlainBoard W) (call : Call W) (d : PlainBoard W) → IsStep b call d → Grows (caller call) b.log d.log
-  step_grows b (offer who p offered.Kept) d step = inr (offer_entry who p, refl, ap (λ (m : PlainBoard W). m.log) step.2.2)
+  step_grows b (offer who p offered.Kept) d step = inr
+      (offer_entry who p, refl, ap (λ (m : PlainBoard W). m.log) step.2.2)
   step_grows b (offer who p (offered.Overlaps q)) d step = inl (ap (λ (m : PlainBoard W). m.log) step.2.2)
   step_grows b (offer who p (offered.Full q)) d step = inl (ap (λ (m : PlainBoard W). m.log) step.2.3)
-  step_grows b (claim who (claimed.Pair t)) d step = inr (claim_entry t.who t, step.0, ap (λ (m : PlainBoard W). m.log) step.3)
+  step_grows b (claim who (claimed.Pair t)) d step = inr
+      (claim_entry t.who t, step.0, ap (λ (m : PlainBoard W). m.log) step.3)
   step_grows b (claim who claimed.NoPair) d step = inl (ap (λ (m : PlainBoard W). m.log) step.1)
   step_grows b (claim who claimed.Full) d step = inl (ap (λ (m : PlainBoard W). m.log) step.3)
   step_grows b (settle t value) d step = inr (settle_entry t, refl, ap (λ (m : PlainBoard W). m.log) step.1)
@@ -79,7 +93,8 @@ module _ {F W : Type 0} (rows : F → ℕ) (stands : F → ℕ → ℕ → W →
   BringsFor None call = ⊥
   BringsFor (Some plan) call = Brings (stands plan) call
 
-  still_of : (plan : Option F) (room : ℕ) (b d : PlainBoard W) (call : Call W) → IsBoardOf rows stands plan room b → BringsFor plan call → IsStep b call d
+  still_of : (plan : Option F) (room : ℕ) (b d : PlainBoard W) (call : Call W) → IsBoardOf rows stands plan room b
+      → BringsFor plan call → IsStep b call d
       → IsBoardOf rows stands plan room d
   still_of None room b d call fits brings step = absurd fits
   still_of (Some plan) room b d call fits brings step = record {
@@ -88,26 +103,32 @@ module _ {F W : Type 0} (rows : F → ℕ) (stands : F → ℕ → ℕ → W →
     room_is = (same_size b call d step).1 ∙ fits.room_is;
   }
 
-  pub brings_claim : (plan : Option F) (room : ℕ) (b : PlainBoard W) (who : ℕ) (answer : CoreClaimed W) → IsBoardOf rows stands plan room b → BringsFor plan (claim who answer)
+  pub brings_claim : (plan : Option F) (room : ℕ) (b : PlainBoard W) (who : ℕ) (answer : CoreClaimed W)
+      → IsBoardOf rows stands plan room b → BringsFor plan (claim who answer)
   brings_claim None room b who answer fits = absurd fits
   brings_claim (Some plan) room b who answer fits = tt
 
-  pub brings_offer : (plan : Option F) (who : ℕ) (p : Piece W) (answer : CoreOffered W) → StandsIn stands plan p.lo p.hi p.value → BringsFor plan (offer who p answer)
+  pub brings_offer : (plan : Option F) (who : ℕ) (p : Piece W) (answer : CoreOffered W)
+      → StandsIn stands plan p.lo p.hi p.value → BringsFor plan (offer who p answer)
   brings_offer None who p answer value_stands = absurd value_stands
   brings_offer (Some plan) who p answer value_stands = value_stands
 
-  pub brings_settle : (plan : Option F) (t : Taken W) (value : W) → IsSomeAnd plan (λ plan. stands plan t.left.lo t.right.hi value) → BringsFor plan (settle t value)
+  pub brings_settle : (plan : Option F) (t : Taken W) (value : W)
+      → IsSomeAnd plan (λ plan. stands plan t.left.lo t.right.hi value) → BringsFor plan (settle t value)
   brings_settle None t value value_stands = absurd value_stands
   brings_settle (Some plan) t value value_stands = value_stands
 
-  pub brings_put_back : (plan : Option F) (t : Taken W) → IsSomeAnd plan (λ plan. stands plan t.left.lo t.left.hi t.left.value)
+  pub brings_put_back : (plan : Option F) (t : Taken W)
+      → IsSomeAnd plan (λ plan. stands plan t.left.lo t.left.hi t.left.value)
       → IsSomeAnd plan (λ plan. stands plan t.right.lo t.right.hi t.right.value) → BringsFor plan (put_back t)
   brings_put_back None t left right = absurd left
   brings_put_back (Some plan) t left right = (left, right)
 
-  pub within_board : (plan : Option F) (room : ℕ) (b : PlainBoard W) (row : ℕ) → IsBoardOf rows stands plan room b → IsWithin rows plan row → row ≤ b.rows
+  pub within_board : (plan : Option F) (room : ℕ) (b : PlainBoard W) (row : ℕ) → IsBoardOf rows stands plan room b
+      → IsWithin rows plan row → row ≤ b.rows
   within_board None room b row fits within = absurd fits
-  within_board (Some plan) room b row fits within = let low : row ≤ rows plan = within in let same = fits.rows_are in omega arith
+  within_board (Some plan) room b row fits within = let low : row ≤ rows plan = within in let same = fits.rows_are in
+      omega arith
 
   module _ (old mid : SeatSeen F) (b : PlainBoard W) (won : HasWon rows stands old b mid) where
     sound : IsSound b
@@ -137,14 +158,16 @@ module _ {F W : Type 0} (rows : F → ℕ) (stands : F → ℕ → ℕ → W →
       room_after = (same_size b call d step).1 ∙ room_of old.plan old.room b won.of_seat
 
       legal_after : IsLegal old.rows old.room d.log
-      legal_after = subst (λ (r : ℕ). IsLegal r old.room d.log) rows_after (subst (λ (m : ℕ). IsLegal d.rows m d.log) room_after sound_after.legal)
+      legal_after = subst (λ (r : ℕ). IsLegal r old.room d.log) rows_after
+          (subst (λ (m : ℕ). IsLegal d.rows m d.log) room_after sound_after.legal)
 
       wins : Wins old b.log after
       wins = record {
         won = refl;
         missed = refl;
         found_later = won.later;
-        seen_later = starts_trans d.log b.log old.seen (grows_starts (caller call) b.log d.log (step_grows b call d step)) won.later;
+        seen_later = starts_trans d.log b.log old.seen
+            (grows_starts (caller call) b.log d.log (step_grows b call d step)) won.later;
         legal = legal_after;
         length = legal_length old.rows old.room d.log legal_after;
         mine = refl;
@@ -152,10 +175,12 @@ module _ {F W : Type 0} (rows : F → ℕ) (stands : F → ℕ → ℕ → W →
       }
 
       bare_before : bare b ≡ replay old.rows old.room b.log
-      bare_before = sound.replayed ∙ ap (λ r. replay r b.room b.log) won.rows_are ∙ ap (λ m. replay old.rows m b.log) (room_of old.plan old.room b won.of_seat)
+      bare_before = sound.replayed ∙ ap (λ r. replay r b.room b.log) won.rows_are
+          ∙ ap (λ m. replay old.rows m b.log) (room_of old.plan old.room b won.of_seat)
 
       bare_after : bare d ≡ replay old.rows old.room d.log
-      bare_after = sound_after.replayed ∙ ap (λ r. replay r d.room d.log) rows_after ∙ ap (λ m. replay old.rows m d.log) room_after
+      bare_after = sound_after.replayed ∙ ap (λ r. replay r d.room d.log) rows_after
+          ∙ ap (λ m. replay old.rows m d.log) room_after
 
       adds : (e : Logged) → e.who ≡ old.number → d.log ≡ b.log ++ e ∷ [] → Adds old b.log e after
       adds e own more = record {
@@ -177,10 +202,13 @@ module _ {F W : Type 0} (rows : F → ℕ) (stands : F → ℕ → ℕ → W →
       own_after : (claims : List Claim) → d.claims ≡ claims → after.taken ≡ claims_by old.number claims
       own_after claims same = sym (sound_claims old.number d sound_after) ∙ ap (λ cs. claims_by old.number cs) same
 
-    offer_bare : (p : Piece W) (answer : CoreOffered W) (d : PlainBoard W) → (step : IsStep b (offer old.number p answer) d)
-        → Offers (replay old.rows old.room b.log) old.number (blank p) (blank_offered answer) (replay old.rows old.room d.log)
+    offer_bare : (p : Piece W) (answer : CoreOffered W) (d : PlainBoard W)
+        → (step : IsStep b (offer old.number p answer) d)
+        → Offers (replay old.rows old.room b.log) old.number (blank p) (blank_offered answer)
+        (replay old.rows old.room d.log)
     offer_bare p answer d step =
-        let P : Bare → Type 0 = λ m. Offers m old.number (blank p) (blank_offered answer) (replay old.rows old.room d.log) in
+        let P : Bare → Type 0 = λ m. Offers m old.number (blank p) (blank_offered answer)
+        (replay old.rows old.room d.log) in
         let Q : Bare → Type 0 = λ m. Offers (bare b) old.number (blank p) (blank_offered answer) m in
         subst P (bare_before (offer old.number p answer) d step)
         (subst Q (bare_after (offer old.number p answer) d step) (offers_bare b old.number d p answer step.2))
@@ -194,10 +222,12 @@ module _ {F W : Type 0} (rows : F → ℕ) (stands : F → ℕ → ℕ → W →
           wins = wins call d step;
           step = offer_bare p offered.Kept d step;
           adds = adds call d step (offer_entry old.number p) refl (ap (λ (m : PlainBoard W). m.log) step.2.2);
-          taken = own_after call d step b.claims (ap (λ (m : PlainBoard W). m.claims) step.2.2) ∙ own_before call d step;
+          taken = own_after call d step b.claims (ap (λ (m : PlainBoard W). m.claims) step.2.2)
+              ∙ own_before call d step;
         }
 
-    pub offer_overlaps : (p q : Piece W) (d : PlainBoard W) → (step : IsStep b (offer old.number p (offered.Overlaps q)) d)
+    pub offer_overlaps : (p q : Piece W) (d : PlainBoard W)
+        → (step : IsStep b (offer old.number p (offered.Overlaps q)) d)
         → OfferOverlaps old p q (after (offer old.number p (offered.Overlaps q)) d step)
     offer_overlaps p q d step =
         let call = offer old.number p (offered.Overlaps q) in
@@ -205,7 +235,8 @@ module _ {F W : Type 0} (rows : F → ℕ) (stands : F → ℕ → ℕ → W →
           handed_back = step.2.1;
           found = b.log;
           wins = wins call d step;
-          step = subst (λ (r : Piece W). Offers (replay old.rows old.room b.log) old.number (blank p) (offered.Overlaps (blank r)) (replay old.rows old.room d.log)) step.2.1
+          step = subst (λ (r : Piece W). Offers (replay old.rows old.room b.log) old.number (blank p)
+              (offered.Overlaps (blank r)) (replay old.rows old.room d.log)) step.2.1
               (offer_bare p (offered.Overlaps q) d step);
           leaves = leaves call d step step.2.2;
         }
@@ -218,7 +249,8 @@ module _ {F W : Type 0} (rows : F → ℕ) (stands : F → ℕ → ℕ → W →
           handed_back = step.2.2;
           found = b.log;
           wins = wins call d step;
-          step = subst (λ (r : Piece W). Offers (replay old.rows old.room b.log) old.number (blank p) (offered.Full (blank r)) (replay old.rows old.room d.log)) step.2.2
+          step = subst (λ (r : Piece W). Offers (replay old.rows old.room b.log) old.number (blank p)
+              (offered.Full (blank r)) (replay old.rows old.room d.log)) step.2.2
               (offer_bare p (offered.Full q) d step);
           leaves = leaves call d step step.2.3;
         }
@@ -239,7 +271,8 @@ module _ {F W : Type 0} (rows : F → ℕ) (stands : F → ℕ → ℕ → W →
         own_after call d step (put_claim (claim_of t) b.claims) (ap (λ (m : PlainBoard W). m.claims) step.3)
         ∙ by_put_own old.number (claim_of t) b.claims step.0 sound.tidy.claims_rise
         ∙ ap (λ cs. put_claim (claim_of t) cs) (own_before call d step) in
-        let plainly : IsLowestPair b t × IsClaim t d.claims = claims_plainly b old.number (claimed.Pair t) d sound step in
+        let plainly : IsLowestPair b t × IsClaim t d.claims = claims_plainly b old.number (claimed.Pair t) d sound
+        step in
         record {
           found = b.log;
           wins = wins call d step;
@@ -250,7 +283,8 @@ module _ {F W : Type 0} (rows : F → ℕ) (stands : F → ℕ → ℕ → W →
           taken = taken;
           is_claim = (
             plainly.0.adjoins,
-            subst (λ (cs : List Claim). IsTrue (list_any (λ c. is_same c (claim_of t)) cs)) (sym taken) (open_put (claim_of t) old.taken),
+            subst (λ (cs : List Claim). IsTrue (list_any (λ c. is_same c (claim_of t)) cs)) (sym taken)
+                (open_put (claim_of t) old.taken),
           );
         }
 
@@ -261,7 +295,8 @@ module _ {F W : Type 0} (rows : F → ℕ) (stands : F → ℕ → ℕ → W →
         record {
           found = b.log;
           wins = wins call d step;
-          step = subst (λ (log : List Logged). Claims (replay old.rows old.room log) old.number (blank_claimed answer) (replay old.rows old.room d.log))
+          step = subst (λ (log : List Logged). Claims (replay old.rows old.room log) old.number
+              (blank_claimed answer) (replay old.rows old.room d.log))
               (ap (λ (m : PlainBoard W). m.log) (sym same)) (claim_bare answer d step);
           leaves = leaves call d step same;
         }
@@ -279,7 +314,8 @@ module _ {F W : Type 0} (rows : F → ℕ) (stands : F → ℕ → ℕ → W →
     on_board t is_claim =
         let own : claims_by old.number b.claims ≡ old.taken = sound_claims old.number b sound ∙ won.taken in (
           is_claim.0,
-          open_by old.number (claim_of t) b.claims (subst (λ (cs : List Claim). IsTrue (list_any (λ c. is_same c (claim_of t)) cs)) (sym own) is_claim.1),
+          open_by old.number (claim_of t) b.claims
+              (subst (λ (cs : List Claim). IsTrue (list_any (λ c. is_same c (claim_of t)) cs)) (sym own) is_claim.1),
         )
 
     pub own_claim : (t : Taken W) → IsClaim t old.taken → t.who ≡ old.number
@@ -289,7 +325,8 @@ module _ {F W : Type 0} (rows : F → ℕ) (stands : F → ℕ → ℕ → W →
         (subst (λ (cs : List Claim). IsTrue (list_any (λ c. is_same c (claim_of t)) cs)) (sym own) is_claim.1)
         (λ (c : Claim). c.who ≡ old.number) (each_own old.number b.claims)
 
-    ends : (t : Taken W) (call : Call W) (d : PlainBoard W) (e : Logged) → (step : IsStep b call d) → IsClaim t old.taken → e.who ≡ t.who
+    ends : (t : Taken W) (call : Call W) (d : PlainBoard W) (e : Logged) → (step : IsStep b call d)
+        → IsClaim t old.taken → e.who ≡ t.who
         → d.log ≡ b.log ++ e ∷ [] → d.claims ≡ without_claim (claim_of t) b.claims → Ends old t e (after call d step)
     ends t call d e step is_claim who more gone = record {
       found = b.log;
@@ -301,12 +338,15 @@ module _ {F W : Type 0} (rows : F → ℕ) (stands : F → ℕ → ℕ → W →
           ∙ ap (λ cs. without_claim (claim_of t) cs) (own_before call d step);
     }
 
-    pub settled : (t : Taken W) (value : W) (d : PlainBoard W) → (step : IsStep b (settle t value) d) → IsClaim t old.taken
+    pub settled : (t : Taken W) (value : W) (d : PlainBoard W) → (step : IsStep b (settle t value) d)
+        → IsClaim t old.taken
         → Ends old t (settle_entry t) (after (settle t value) d step)
     settled t value d step is_claim =
-        ends t (settle t value) d (settle_entry t) step is_claim refl (ap (λ (m : PlainBoard W). m.log) step.1) (ap (λ (m : PlainBoard W). m.claims) step.1)
+        ends t (settle t value) d (settle_entry t) step is_claim refl (ap (λ (m : PlainBoard W). m.log) step.1)
+        (ap (λ (m : PlainBoard W). m.claims) step.1)
 
     pub was_put_back : (t : Taken W) (d : PlainBoard W) → (step : IsStep b (put_back t) d) → IsClaim t old.taken
         → Ends old t (put_back_entry t) (after (put_back t) d step)
     was_put_back t d step is_claim =
-        ends t (put_back t) d (put_back_entry t) step is_claim refl (ap (λ (m : PlainBoard W). m.log) step.1) (ap (λ (m : PlainBoard W). m.claims) step.1)
+        ends t (put_back t) d (put_back_entry t) step is_claim refl (ap (λ (m : PlainBoard W). m.log) step.1)
+        (ap (λ (m : PlainBoard W). m.claims) step.1)

@@ -1,5 +1,6 @@
 -- What a call's steps make of its seat: it tries for the turn, has the board, and gives the turn up.
-use Rattle.std.proofs.Common.{◌≡◌, ◌≢◌, ℕ, zero, suc, ◌≤◌, ◌==◌, ⊎_elim, Bool, true, false, cond, List, [], ◌∷◌, ap, sym, refl, subst, ◌∙◌, arith}
+use Rattle.std.proofs.Common.{◌≡◌, ◌≢◌, ℕ, zero, suc, ◌≤◌, ◌==◌, ⊎_elim, Bool, true, false, cond, List, [], ◌∷◌, ap}
+use Rattle.std.proofs.Common.{sym, refl, subst, ◌∙◌, arith}
 use Rattle.std.specs.Prelude.{Some, None, MatchOption}
 use mathlib.Core.Option.{some, some-injective, some-ne-none}
 use lib.ListN.{get_elem?}
@@ -27,22 +28,26 @@ module _ {F : Type 0} where
   seen_table rows table view.Spent = refl
 
   -- a seat of this board steps on its table
-  pub own_table : (rows : F → ℕ) (table board at : TableId) (v : View F) (seen : SeatSeen F) → seat_seen rows table v ≡ seen → board ≡ at → seen.table ≡ at
+  pub own_table : (rows : F → ℕ) (table board at : TableId) (v : View F) (seen : SeatSeen F)
+      → seat_seen rows table v ≡ seen → board ≡ at → seen.table ≡ at
       → table ≡ board
   own_table rows table board at v seen is here ready =
       sym (seen_table rows table v) ∙ ap (λ (s : SeatSeen F). s.table) is ∙ ready ∙ sym here
 
 module _ {F W : Type 0} where
   -- the slots of a seat, as its turn says
-  slots_when : (number spare : ℕ) (p : Place F) (slots : List (ℕ × Slot W)) (h : Bool) → IsPlace number spare p slots → p.holds ≡ h
+  slots_when : (number spare : ℕ) (p : Place F) (slots : List (ℕ × Slot W)) (h : Bool) → IsPlace number spare p slots
+      → p.holds ≡ h
       → slots ≡ cond h ((0, None) ∷ []) []
   slots_when number spare p slots h fits holds = fits.slots_are ∙ ap (λ b. cond b ((0, None) ∷ []) []) holds
 
   module _ (rows : F → ℕ) (stands : F → ℕ → ℕ → W → Type 0) (number spare : ℕ) (table : TableId) where
-    pub try_allowed : (key : Opening F) (id slots : ℕ) (st : Step (Slot W)) (me : Holder F W) → IsSeat number spare me → (seat_seen rows table me.0).holds ≡ false
+    pub try_allowed : (key : Opening F) (id slots : ℕ) (st : Step (Slot W)) (me : Holder F W)
+        → IsSeat number spare me → (seat_seen rows table me.0).holds ≡ false
         → Allows (BoardRule rows stands key) slots id me 0 (λ n. either (n == 0) 1 n) (tries rows stands st me)
     try_allowed key id slots st (view.Seat p, held) fits idle =
-        subst (λ (xs : List (ℕ × Slot W)). Allows (BoardRule rows stands key) slots id (view.Seat p, xs) 0 (λ n. either (n == 0) 1 n) (tries rows stands st (view.Seat p, xs)))
+        subst (λ (xs : List (ℕ × Slot W)). Allows (BoardRule rows stands key) slots id (view.Seat p, xs) 0
+        (λ n. either (n == 0) 1 n) (tries rows stands st (view.Seat p, xs)))
         (sym (slots_when number spare p held false fits idle)) (try_keeps rows stands key id p idle slots st)
     try_allowed key id slots st (view.Note s, held) fits idle = absurd fits
     try_allowed key id slots st (view.Spent, held) fits idle = absurd fits
@@ -51,7 +56,8 @@ module _ {F W : Type 0} where
     HasSlot me = (x : Slot W) × (me.1 ≡ (0, x) ∷ rest me.1)
 
     -- the slot is with a seat that won
-    pub won_slot : (st : Step (Slot W)) (n : ℕ) (me mid : Holder F W) → IsSeat number spare me → tries rows stands st me n mid → n ≡ 0
+    pub won_slot : (st : Step (Slot W)) (n : ℕ) (me mid : Holder F W) → IsSeat number spare me
+        → tries rows stands st me n mid → n ≡ 0
         → (x : Slot W) × (mid.1 ≡ (0, x) ∷ rest mid.1)
     won_slot st n (view.Seat p, held) mid fits step zero_read = ⊎_elim
         (λ won. subst HasSlot (sym won.1.seat) (Some won.1.board, refl))
@@ -63,12 +69,20 @@ module _ {F W : Type 0} where
     abbrev Missed : Holder F W → Holder F W → Type 0
     Missed me after = IsSeat number spare after × Misses (seat_seen rows table me.0) (seat_seen rows table after.0)
 
-    pub missed : (st : Step (Slot W)) (n : ℕ) (me after : Holder F W) → IsSeat number spare me → (seat_seen rows table me.0).holds ≡ false
+    pub missed : (st : Step (Slot W)) (n : ℕ) (me after : Holder F W) → IsSeat number spare me
+        → (seat_seen rows table me.0).holds ≡ false
         → tries rows stands st me n after → n ≢ 0 → Missed me after
     missed st n (view.Seat p, held) after fits idle step other = ⊎_elim
         (λ won. absurd (other won.0))
         (λ lost. subst (λ (a : Holder F W). Missed (view.Seat p, held) a) (sym lost.1) (
-          record { number_is = fits.number_is; spare_is = fits.spare_is; in_range = fits.in_range; no_olds = fits.no_olds; slots_are = fits.slots_are },
+          record {
+            number_is = fits.number_is;
+            spare_is = fits.spare_is;
+            in_range = fits.in_range;
+            no_olds =
+                fits.no_olds;
+            slots_are = fits.slots_are;
+          },
           refl,
         ))
         step
@@ -77,10 +91,12 @@ module _ {F W : Type 0} where
 
     abbrev Won : Holder F W → Slot W → Holder F W → Type 0
     Won me found after = IsSeat number spare after
-        × MatchOption found (Misses (seat_seen rows table me.0) (seat_seen rows table after.0)) (λ b. HasWon rows stands (seat_seen rows table me.0) b (seat_seen rows table after.0))
+        × MatchOption found (Misses (seat_seen rows table me.0) (seat_seen rows table after.0))
+        (λ b. HasWon rows stands (seat_seen rows table me.0) b (seat_seen rows table after.0))
 
     -- what the exchange of the slot gives: the slot's value was x, and it is None now
-    pub won : (st : Step (Slot W)) (n : ℕ) (me mid after : Holder F W) (x : Slot W) → IsSeat number spare me → tries rows stands st me n mid → n ≡ 0
+    pub won : (st : Step (Slot W)) (n : ℕ) (me mid after : Holder F W) (x : Slot W) → IsSeat number spare me
+        → tries rows stands st me n mid → n ≡ 0
         → mid.1 ≡ (0, x) ∷ rest mid.1 → after ≡ (mid.0, (0, None) ∷ rest mid.1) → Won me x after
     won st n (view.Seat p, held) mid after x fits step zero_read slot exchanged = ⊎_elim
         (λ w. won_by w.1)
@@ -96,10 +112,18 @@ module _ {F W : Type 0} where
             let b = w.board in
             let mid_slots : mid.1 ≡ (0, Some b) ∷ [] = ap (λ (m : Holder F W). m.1) w.seat in
             let value : x ≡ Some b = ap first_slot (sym slot ∙ mid_slots) in
-            let is : after ≡ (view.Seat (winner p b.log), (0, None) ∷ []) = exchanged ∙ ap (λ (m : Holder F W). (m.0, (0, None) ∷ rest m.1)) w.seat in
+            let is : after ≡ (view.Seat (winner p b.log), (0, None) ∷ []) = exchanged
+            ∙ ap (λ (m : Holder F W). (m.0, (0, None) ∷ rest m.1)) w.seat in
             subst (λ (y : Slot W). Won (view.Seat p, held) y after) (sym value)
             (subst (λ (a : Holder F W). Won (view.Seat p, held) (Some b) a) (sym is) (
-              record { number_is = fits.number_is; spare_is = fits.spare_is; in_range = fits.in_range; no_olds = fits.no_olds; slots_are = refl },
+              record {
+                number_is = fits.number_is;
+                spare_is = fits.spare_is;
+                in_range = fits.in_range;
+                no_olds =
+                    fits.no_olds;
+                slots_are = refl;
+              },
               record {
                 seat = refl;
                 of_seat = w.finds.of_terms;
@@ -113,37 +137,52 @@ module _ {F W : Type 0} where
     won st n (view.Spent, held) mid after x fits step zero_read slot exchanged = absurd fits
 
     -- a seat that holds the turn has the slot, which holds nothing
-    pub has_slot : (b : PlainBoard W) (me : Holder F W) → IsSeat number spare me → MayGoHome rows stands (seat_seen rows table me.0) b
+    pub has_slot : (b : PlainBoard W) (me : Holder F W) → IsSeat number spare me
+        → MayGoHome rows stands (seat_seen rows table me.0) b
         → (x : Slot W) × (me.1 ≡ (0, x) ∷ rest me.1)
     has_slot b (view.Seat p, held) fits home =
-        subst (λ (xs : List (ℕ × Slot W)). HasSlot (view.Seat p, xs)) (sym (slots_when number spare p held true fits home.holds)) (None, refl)
+        subst (λ (xs : List (ℕ × Slot W)). HasSlot (view.Seat p, xs))
+        (sym (slots_when number spare p held true fits home.holds)) (None, refl)
     has_slot b (view.Note s, held) fits home = absurd fits
     has_slot b (view.Spent, held) fits home = absurd fits
 
-    carried_home : (b : PlainBoard W) (p : Place F) (held : List (ℕ × Slot W)) (mid : Holder F W) → IsPlace number spare p held → p.holds ≡ true
+    carried_home : (b : PlainBoard W) (p : Place F) (held : List (ℕ × Slot W)) (mid : Holder F W)
+        → IsPlace number spare p held → p.holds ≡ true
         → mid ≡ (view.Seat p, (0, Some b) ∷ rest held) → mid ≡ (view.Seat p, (0, Some b) ∷ [])
     carried_home b p held mid fits holds exchanged =
-        exchanged ∙ ap (λ (xs : List (ℕ × Slot W)). (view.Seat p, (0, Some b) ∷ rest xs)) (slots_when number spare p held true fits holds)
+        exchanged ∙ ap (λ (xs : List (ℕ × Slot W)). (view.Seat p, (0, Some b) ∷ rest xs))
+        (slots_when number spare p held true fits holds)
 
-    pub free_allowed : (key : Opening F) (id slots : ℕ) (st : Step (Slot W)) (b : PlainBoard W) (me mid : Holder F W) → IsSeat number spare me
+    pub free_allowed : (key : Opening F) (id slots : ℕ) (st : Step (Slot W)) (b : PlainBoard W) (me mid : Holder F W)
+        → IsSeat number spare me
         → MayGoHome rows stands (seat_seen rows table me.0) b → mid ≡ (me.0, (0, Some b) ∷ rest me.1)
         → Allows (BoardRule rows stands key) slots id mid 0 (λ n. 0) (frees st mid)
     free_allowed key id slots st b (view.Seat p, held) mid fits home exchanged =
-        subst (λ (m : Holder F W). Allows (BoardRule rows stands key) slots id m 0 (λ n. 0) (frees st m)) (sym (carried_home b p held mid fits home.holds exchanged))
+        subst (λ (m : Holder F W). Allows (BoardRule rows stands key) slots id m 0 (λ n. 0) (frees st m))
+        (sym (carried_home b p held mid fits home.holds exchanged))
         (free_keeps rows stands key id p b slots st home.holds home.of_seat home.grows)
     free_allowed key id slots st b (view.Note s, held) mid fits home exchanged = absurd fits
     free_allowed key id slots st b (view.Spent, held) mid fits home exchanged = absurd fits
 
     abbrev Freed : Holder F W → PlainBoard W → Holder F W → Type 0
-    Freed me b after = IsSeat number spare after × (seat_seen rows table after.0 ≡ done_seat (seat_seen rows table me.0) b.log)
+    Freed me b after = IsSeat number spare after ×
+        (seat_seen rows table after.0 ≡ done_seat (seat_seen rows table me.0) b.log)
 
     pub is_freed : (st : Step (Slot W)) (n : ℕ) (b : PlainBoard W) (me mid after : Holder F W) → IsSeat number spare me
-        → MayGoHome rows stands (seat_seen rows table me.0) b → mid ≡ (me.0, (0, Some b) ∷ rest me.1) → frees st mid n after → Freed me b after
+        → MayGoHome rows stands (seat_seen rows table me.0) b → mid ≡ (me.0, (0, Some b) ∷ rest me.1)
+        → frees st mid n after → Freed me b after
     is_freed st n b (view.Seat p, held) mid after fits home exchanged step =
         let is : after ≡ (view.Seat (done p b.log), []) =
         subst (λ (m : Holder F W). frees st m n after) (carried_home b p held mid fits home.holds exchanged) step in
         subst (λ (a : Holder F W). Freed (view.Seat p, held) b a) (sym is) (
-          record { number_is = fits.number_is; spare_is = fits.spare_is; in_range = fits.in_range; no_olds = fits.no_olds; slots_are = refl },
+          record {
+            number_is = fits.number_is;
+            spare_is = fits.spare_is;
+            in_range = fits.in_range;
+            no_olds =
+                fits.no_olds;
+            slots_are = refl;
+          },
           refl,
         )
     is_freed st n b (view.Note s, held) mid after fits home exchanged step = absurd fits
@@ -151,8 +190,10 @@ module _ {F W : Type 0} where
 
   -- the table of an empty board, and its one seat
   module _ (rows : F → ℕ) (stands : F → ℕ → ℕ → W → Type 0) (key : Opening F) (some_callers : 1 ≤ key.callers) where
-    first_fits : (i : ℕ) (v : View F) → get_elem? (first_view key ∷ []) i ≡ some v → ViewFits (terms_of key) (λ n. 0) None [] i v
-    first_fits zero v here = subst (λ (x : View F). ViewFits (terms_of key) (λ n. 0) None [] 0 x) (some-injective (first_view key) v here)
+    first_fits : (i : ℕ) (v : View F) → get_elem? (first_view key ∷ []) i ≡ some v
+        → ViewFits (terms_of key) (λ n. 0) None [] i v
+    first_fits zero v here = subst (λ (x : View F). ViewFits (terms_of key) (λ n. 0) None [] 0 x)
+        (some-injective (first_view key) v here)
         (record {
           terms_are = refl;
           numbers = omega arith;
@@ -167,7 +208,8 @@ module _ {F W : Type 0} where
         })
     first_fits (suc i) v here = absurd (some-ne-none v (sym here))
 
-    pub starts_fit : (b : PlainBoard W) → b ≡ empty (rows key.plan.value) key.room → (slots : List (Slot W)) → slots ≡ Some b ∷ []
+    pub starts_fit : (b : PlainBoard W) → b ≡ empty (rows key.plan.value) key.room → (slots : List (Slot W))
+        → slots ≡ Some b ∷ []
         → BoardRule rows stands key (opening (0 ∷ []) slots (first_view key))
     starts_fit b is slots whole =
         let P : List (Slot W) → Type 0 = λ xs. BoardRule rows stands key (opening (0 ∷ []) xs (first_view key)) in

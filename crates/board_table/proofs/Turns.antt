@@ -1,5 +1,6 @@
 -- Each step on the turn keeps the Board rule: a try that wins or misses, and the step that gives the turn up.
-use Rattle.std.proofs.Common.{◌≡◌, ◌≢◌, ℕ, ◌+◌, ◌<◌, ◌≤◌, ◌==◌, inl, inr, ⊎_elim, Bool, true, false, List, [], ◌∷◌, length, slice_index, set, ap, sym, refl, subst, ◌∙◌, length-set, get_or-set_same, arith}
+use Rattle.std.proofs.Common.{◌≡◌, ◌≢◌, ℕ, ◌+◌, ◌<◌, ◌≤◌, ◌==◌, inl, inr, ⊎_elim, Bool, true, false, List, [], ◌∷◌}
+use Rattle.std.proofs.Common.{length, slice_index, set, ap, sym, refl, subst, ◌∙◌, length-set, get_or-set_same, arith}
 use Rattle.std.specs.Prelude.{Option, Some, None}
 use mathlib.Core.Option.{some, none, some-injective}
 use lib.ListN.{get_elem?}
@@ -17,10 +18,12 @@ use Rattle.board_table.specs.declared.view.View.{View}
 use Rattle.board_table.specs.declared.view.View.TheVariants as view
 use Rattle.board_table.specs.declared.table.Opening.{Opening}
 use Rattle.board_table.specs.Views.{StartsWith, winner, loser, done}
-use Rattle.board_table.specs.Rule.{Slot, TurnTable, terms_of, IsAt, PlaceFits, ViewFits, IsBoardFor, IsFree, IsHeld, TurnIs, BoardRule}
+use Rattle.board_table.specs.Rule.{Slot, TurnTable, terms_of, IsAt, PlaceFits, ViewFits, IsBoardFor, IsFree, IsHeld}
+use Rattle.board_table.specs.Rule.{TurnIs, BoardRule}
 use Rattle.board_table.specs.Steps.{Finds, tries, frees}
 use Rattle.board_table.specs.Changes.{Grows}
-use Rattle.board_table.proofs.Beginnings.{at_below, starts_refl, starts_from, starts_trans, starts_length, grows_starts, grows_entries, grows_claims, grows_of_callers}
+use Rattle.board_table.proofs.Beginnings.{at_below, starts_refl, starts_from, starts_trans, starts_length}
+use Rattle.board_table.proofs.Beginnings.{grows_starts, grows_entries, grows_claims, grows_of_callers}
 
 abbrev place_in : Option ℕ → ℕ
 place_in None = 0
@@ -35,14 +38,16 @@ no_holder i same = let clash : None ≡ Some i = same in cc
 pub never : true ≡ false → ⊥
 never same = let clash : true ≡ false = same in cc
 
-each_longer : (log : List Logged) (low high : ℕ) (olds : List (List Logged)) → low ≤ high → Each (λ old. StartsWith log old × (length old ≤ low)) olds
+each_longer : (log : List Logged) (low high : ℕ) (olds : List (List Logged)) → low ≤ high
+    → Each (λ old. StartsWith log old × (length old ≤ low)) olds
     → Each (λ old. StartsWith log old × (length old ≤ high)) olds
 each_longer log low high olds more all =
     each_map (λ old. StartsWith log old × (length old ≤ low)) (λ old. StartsWith log old × (length old ≤ high))
     (λ old fits. (fits.0, (let short = fits.1 in omega arith))) olds all
 
 each_later : (log before : List Logged) (low high : ℕ) (olds : List (List Logged)) → StartsWith log before → low ≤ high
-    → Each (λ old. StartsWith before old × (length old ≤ low)) olds → Each (λ old. StartsWith log old × (length old ≤ high)) olds
+    → Each (λ old. StartsWith before old × (length old ≤ low)) olds
+    → Each (λ old. StartsWith log old × (length old ≤ high)) olds
 each_later log before low high olds later more all =
     each_map (λ old. StartsWith before old × (length old ≤ low)) (λ old. StartsWith log old × (length old ≤ high))
     (λ old fits. (starts_trans log before old later fits.0, (let short = fits.1 in omega arith))) olds all
@@ -74,7 +79,8 @@ module _ {F : Type 0} where
     terms = terms_of key
 
     -- the seats that hold the turn stay where they are, and so does the turn
-    pub turn_moved : (t : TurnTable F W) (log : List Logged) (words : List ℕ) (views : List (View F)) → slice_index words 0 ≡ slice_index t.words 0
+    pub turn_moved : (t : TurnTable F W) (log : List Logged) (words : List ℕ) (views : List (View F))
+        → slice_index words 0 ≡ slice_index t.words 0
         → ((i : ℕ) (q : Place F) → IsAt t i (view.Seat q) → q.holds ≡ true → get_elem? views i ≡ some (view.Seat q))
         → (holder : Option ℕ) → TurnIs rows stands terms log t holder
         → TurnIs rows stands terms log (record { words = words; homes = t.homes; views = views }) holder
@@ -95,23 +101,29 @@ module _ {F : Type 0} where
 
     module _ (t : TurnTable F W) (id : ℕ) where
       -- a seat that holds the turn is not where a view stands that doesn't
-      pub not_there : (v : View F) → IsAt t id v → holds_of v ≡ false → (i : ℕ) (q : Place F) → IsAt t i (view.Seat q) → q.holds ≡ true → i ≢ id
+      pub not_there : (v : View F) → IsAt t id v → holds_of v ≡ false → (i : ℕ) (q : Place F)
+          → IsAt t i (view.Seat q) → q.holds ≡ true → i ≢ id
       not_there v at idle i q there holds same =
-          let here : get_elem? t.views id ≡ some (view.Seat q) = subst (λ (k : ℕ). get_elem? t.views k ≡ some (view.Seat q)) same there in
+          let here : get_elem? t.views id ≡ some (view.Seat q) = subst
+          (λ (k : ℕ). get_elem? t.views k ≡ some (view.Seat q)) same there in
           never (sym holds ∙ ap holds_of (some-injective (view.Seat q) v (sym here ∙ at)) ∙ idle)
 
-      pub each_set : (owner : ℕ → ℕ) (holder : Option ℕ) (log : List Logged) (v : View F) → ViewFits terms owner holder log id v
+      pub each_set : (owner : ℕ → ℕ) (holder : Option ℕ) (log : List Logged) (v : View F)
+          → ViewFits terms owner holder log id v
           → ((j : ℕ) (w : View F) → j ≢ id → IsAt t j w → ViewFits terms owner holder log j w)
           → (j : ℕ) (w : View F) → get_elem? (set t.views id v) j ≡ some w → ViewFits terms owner holder log j w
       each_set owner holder log v new others j w here = ⊎_elim
-          (λ e. subst (λ (k : ℕ). ViewFits terms owner holder log k w) (sym e.0) (subst (λ (x : View F). ViewFits terms owner holder log id x) e.1 new))
+          (λ e. subst (λ (k : ℕ). ViewFits terms owner holder log k w) (sym e.0)
+          (subst (λ (x : View F). ViewFits terms owner holder log id x) e.1 new))
           (λ e. others j w e.0 e.1)
           (at_set t.views id j v w here)
 
       -- a seat without the turn changes what it knows
-      pub quiet : (p q : Place F) → BoardRule rows stands key t → IsAt t id (view.Seat p) → p.holds ≡ false → (words : List ℕ) → length words ≡ 1
+      pub quiet : (p q : Place F) → BoardRule rows stands key t → IsAt t id (view.Seat p) → p.holds ≡ false
+          → (words : List ℕ) → length words ≡ 1
           → slice_index words 0 ≡ slice_index t.words 0
-          → ((owner : ℕ → ℕ) (holder : Option ℕ) (log : List Logged) → IsLegal (rows key.plan.value) key.room log → PlaceFits terms owner holder log id p → PlaceFits terms owner holder log id q)
+          → ((owner : ℕ → ℕ) (holder : Option ℕ) (log : List Logged) → IsLegal (rows key.plan.value) key.room log
+          → PlaceFits terms owner holder log id p → PlaceFits terms owner holder log id q)
           → BoardRule rows stands key (record { words = words; homes = t.homes; views = set t.views id (view.Seat q) })
       quiet p q rule at idle words wide same new = record {
         words = wide;
@@ -122,7 +134,8 @@ module _ {F : Type 0} where
         owner = rule.owner;
         holder = rule.holder;
         turn = turn_moved t rule.log words (set t.views id (view.Seat q)) same
-            (λ i r there holds. set_else t.views id i (view.Seat q) (not_there (view.Seat p) at idle i r there holds) ∙ there)
+            (λ i r there holds. set_else t.views id i (view.Seat q) (not_there (view.Seat p) at idle i r there holds)
+            ∙ there)
             rule.holder rule.turn;
         each = each_set rule.owner rule.holder rule.log (view.Seat q)
             (new rule.owner rule.holder rule.log rule.legal (rule.each id (view.Seat p) at))
@@ -130,7 +143,8 @@ module _ {F : Type 0} where
       }
 
     -- nobody had the turn, so that all but the winner fit as before
-    unheld : (owner : ℕ → ℕ) (log : List Logged) (id j : ℕ) (w : View F) → ViewFits terms owner None log j w → ViewFits terms owner (Some id) log j w
+    unheld : (owner : ℕ → ℕ) (log : List Logged) (id j : ℕ) (w : View F) → ViewFits terms owner None log j w
+        → ViewFits terms owner (Some id) log j w
     unheld owner log id j (view.Seat q) fits = record {
       terms_are = fits.terms_are;
       numbers = fits.numbers;
@@ -146,7 +160,8 @@ module _ {F : Type 0} where
     unheld owner log id j (view.Note s) fits = fits
     unheld owner log id j view.Spent fits = fits
 
-    won_fits : (owner : ℕ → ℕ) (log : List Logged) (id : ℕ) (p : Place F) (seen : List Logged) → seen ≡ log → PlaceFits terms owner None log id p
+    won_fits : (owner : ℕ → ℕ) (log : List Logged) (id : ℕ) (p : Place F) (seen : List Logged) → seen ≡ log
+        → PlaceFits terms owner None log id p
         → PlaceFits terms owner (Some id) log id (winner p seen)
     won_fits owner log id p seen same fits = record {
       terms_are = fits.terms_are;
@@ -167,21 +182,27 @@ module _ {F : Type 0} where
     module _ (id : ℕ) (p : Place F) (idle : p.holds ≡ false) where
       abbrev Goal : TurnTable F W → Step (Slot W) → Type 0
       Goal t st = (w : View F) × (a : Act (Slot W)) × Valid t.homes [] a
-          × BoardRule rows stands key (stepped t 0 (either (slice_index t.words 0 == 0) 1 (slice_index t.words 0)) id [] w a)
+          × BoardRule rows stands key
+          (stepped t 0 (either (slice_index t.words 0 == 0) 1 (slice_index t.words 0)) id [] w a)
           × tries rows stands st (view.Seat p, []) (slice_index t.words 0) (w, carried_after [] a)
 
-      found : (t : TurnTable F W) (log : List Logged) (owner : ℕ → ℕ) → PlaceFits terms owner None log id p → (free : IsFree rows stands terms log t)
+      found : (t : TurnTable F W) (log : List Logged) (owner : ℕ → ℕ) → PlaceFits terms owner None log id p
+          → (free : IsFree rows stands terms log t)
           → Finds rows stands p free.board
       found t log owner fits free = record {
-        of_terms = subst (λ (x : Terms F). IsBoardFor rows stands x.plan x.room free.board) (sym fits.terms_are) free.of_terms;
+        of_terms = subst (λ (x : Terms F). IsBoardFor rows stands x.plan x.room free.board) (sym fits.terms_are)
+            free.of_terms;
         later = subst (λ (l : List Logged). StartsWith l p.seen) (sym free.log_is) fits.seen;
         mine = ap (entries_of p.number) free.log_is ∙ fits.mine;
         taken = ap (claims_of p.number) free.log_is ∙ fits.taken;
       }
 
-      try_wins : (t : TurnTable F W) (st : Step (Slot W)) (log : List Logged) (owner : ℕ → ℕ) → length t.words ≡ 1 → length t.homes ≡ 1
-          → IsLegal (rows key.plan.value) key.room log → Each (λ e. e.who < key.callers) log → IsFree rows stands terms log t
-          → ((j : ℕ) (w : View F) → IsAt t j w → ViewFits terms owner None log j w) → IsAt t id (view.Seat p) → Goal t st
+      try_wins : (t : TurnTable F W) (st : Step (Slot W)) (log : List Logged) (owner : ℕ → ℕ) → length t.words ≡ 1
+          → length t.homes ≡ 1
+          → IsLegal (rows key.plan.value) key.room log → Each (λ e. e.who < key.callers) log
+          → IsFree rows stands terms log t
+          → ((j : ℕ) (w : View F) → IsAt t j w → ViewFits terms owner None log j w) → IsAt t id (view.Seat p)
+          → Goal t st
       try_wins t st log owner wide single legal of_callers free each at =
           let n = slice_index t.words 0 in
           let now = winner p free.board.log in
@@ -205,13 +226,15 @@ module _ {F : Type 0} where
                 seat = set_here t.views id (view.Seat now) (at_below t.views id (view.Seat p) at);
                 holds = refl;
               };
-              each = each_set t id owner (Some id) log (view.Seat now) (won_fits owner log id p free.board.log free.log_is fits)
+              each = each_set t id owner (Some id) log (view.Seat now)
+                  (won_fits owner log id p free.board.log free.log_is fits)
                   (λ j w differ there. unheld owner log id j w (each j w there));
             },
             inl (free.word, record { board = free.board; finds = found t log owner fits free; seat = refl }),
           )
 
-      try_misses : (t : TurnTable F W) (st : Step (Slot W)) (i : ℕ) → IsHeld rows stands t i → BoardRule rows stands key t → IsAt t id (view.Seat p) → Goal t st
+      try_misses : (t : TurnTable F W) (st : Step (Slot W)) (i : ℕ) → IsHeld rows stands t i
+          → BoardRule rows stands key t → IsAt t id (view.Seat p) → Goal t st
       try_misses t st i held rule at =
           let n = slice_index t.words 0 in
           let wide = rule.words in
@@ -219,23 +242,29 @@ module _ {F : Type 0} where
             view.Seat (loser p),
             keeps,
             tt,
-            quiet t id p (loser p) rule at idle (set t.words 0 (either (n == 0) 1 n)) (length-set t.words 0 (either (n == 0) 1 n) ∙ wide)
+            quiet t id p (loser p) rule at idle (set t.words 0 (either (n == 0) 1 n))
+                (length-set t.words 0 (either (n == 0) 1 n) ∙ wide)
                 (get_or-set_same t.words 0 (either (n == 0) 1 n) 0 (omega arith) ∙ becomes)
                 (λ owner holder log legal fits. refits terms owner holder log id p fits),
             inr (held.word, refl),
           )
 
-      try_either : (t : TurnTable F W) (st : Step (Slot W)) → (rule : BoardRule rows stands key t) → IsAt t id (view.Seat p) → (holder : Option ℕ)
-          → TurnIs rows stands terms rule.log t holder → ((j : ℕ) (w : View F) → IsAt t j w → ViewFits terms rule.owner holder rule.log j w) → Goal t st
-      try_either t st rule at None turn each = try_wins t st rule.log rule.owner rule.words rule.slots rule.legal rule.of_callers turn each at
+      try_either : (t : TurnTable F W) (st : Step (Slot W)) → (rule : BoardRule rows stands key t)
+          → IsAt t id (view.Seat p) → (holder : Option ℕ)
+          → TurnIs rows stands terms rule.log t holder
+          → ((j : ℕ) (w : View F) → IsAt t j w → ViewFits terms rule.owner holder rule.log j w) → Goal t st
+      try_either t st rule at None turn each = try_wins t st rule.log rule.owner rule.words rule.slots rule.legal
+          rule.of_callers turn each at
       try_either t st rule at (Some i) turn each = try_misses t st i turn rule at
 
       pub try_keeps : (slots : ℕ) (st : Step (Slot W))
-          → Allows (BoardRule rows stands key) slots id (view.Seat p, []) 0 (λ n. either (n == 0) 1 n) (tries rows stands st (view.Seat p, []))
+          → Allows (BoardRule rows stands key) slots id (view.Seat p, []) 0 (λ n. either (n == 0) 1 n)
+          (tries rows stands st (view.Seat p, []))
       try_keeps slots st t rule single at small = try_either t st rule at rule.holder rule.turn rule.each
 
     -- other seats fit when a seat brings home a board with at most one entry of its own number more
-    grown_fits : (owner : ℕ → ℕ) (holder : Option ℕ) (before log : List Logged) (who id j : ℕ) (w : View F) → holder ≡ Some id → owner who ≡ id → j ≢ id
+    grown_fits : (owner : ℕ → ℕ) (holder : Option ℕ) (before log : List Logged) (who id j : ℕ) (w : View F)
+        → holder ≡ Some id → owner who ≡ id → j ≢ id
         → Grows who before log → ViewFits terms owner holder before j w → ViewFits terms owner None log j w
     grown_fits owner holder before log who id j (view.Seat q) holds owns differ grows fits =
         let apart : (n : ℕ) → q.number ≤ n → n ≤ q.number + q.spare → n ≢ who =
@@ -263,7 +292,8 @@ module _ {F : Type 0} where
     }
     grown_fits owner holder before log who id j view.Spent holds owns differ grows fits = tt
 
-    done_fits : (owner : ℕ → ℕ) (holder : Option ℕ) (before log : List Logged) (id : ℕ) (p : Place F) → Grows p.number before log
+    done_fits : (owner : ℕ → ℕ) (holder : Option ℕ) (before log : List Logged) (id : ℕ) (p : Place F)
+        → Grows p.number before log
         → PlaceFits terms owner holder before id p → PlaceFits terms owner None log id (done p log)
     done_fits owner holder before log id p grows fits =
         let later = grows_starts p.number before log grows in
@@ -285,9 +315,11 @@ module _ {F : Type 0} where
           turn = λ held. absurd (never (sym held));
         }
 
-    pub free_keeps : (id : ℕ) (p : Place F) (b : PlainBoard W) (slots : ℕ) (st : Step (Slot W)) → p.holds ≡ true → IsBoardFor rows stands p.terms.plan p.terms.room b
+    pub free_keeps : (id : ℕ) (p : Place F) (b : PlainBoard W) (slots : ℕ) (st : Step (Slot W)) → p.holds ≡ true
+        → IsBoardFor rows stands p.terms.plan p.terms.room b
         → Grows p.number p.seen b.log
-        → Allows (BoardRule rows stands key) slots id (view.Seat p, (0, Some b) ∷ []) 0 (λ n. 0) (frees st (view.Seat p, (0, Some b) ∷ []))
+        → Allows (BoardRule rows stands key) slots id (view.Seat p, (0, Some b) ∷ []) 0 (λ n. 0)
+        (frees st (view.Seat p, (0, Some b) ∷ []))
     free_keeps id p b slots st holds of_place grows t rule single at small =
         let fits : PlaceFits terms rule.owner rule.holder rule.log id p = rule.each id (view.Seat p) at in
         let wide = rule.words in
@@ -304,7 +336,8 @@ module _ {F : Type 0} where
             words = length-set t.words 0 0 ∙ wide;
             slots = length-set t.homes 0 (some (Some b)) ∙ one;
             log = b.log;
-            legal = subst (λ (r : ℕ). IsLegal r key.room b.log) of_terms.rows_are (subst (λ (m : ℕ). IsLegal b.rows m b.log) of_terms.room_is of_terms.sound.sound.legal);
+            legal = subst (λ (r : ℕ). IsLegal r key.room b.log) of_terms.rows_are
+                (subst (λ (m : ℕ). IsLegal b.rows m b.log) of_terms.room_is of_terms.sound.sound.legal);
             of_callers = grows_of_callers p.number key.callers rule.log b.log grown
                 (let numbers : p.number + p.spare < key.callers = fits.numbers in omega arith) rule.of_callers;
             owner = rule.owner;
@@ -318,7 +351,8 @@ module _ {F : Type 0} where
             };
             each = each_set t id rule.owner None b.log (view.Seat (done p b.log))
                 (done_fits rule.owner rule.holder rule.log b.log id p grown fits)
-                (λ j w differ there. grown_fits rule.owner rule.holder rule.log b.log p.number id j w turn.0 owns differ grown (rule.each j w there));
+                (λ j w differ there. grown_fits rule.owner rule.holder rule.log b.log p.number id j w turn.0 owns
+                differ grown (rule.each j w there));
           },
           refl,
         )

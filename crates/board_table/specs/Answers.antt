@@ -7,7 +7,8 @@ use Rattle.board_core.specs.declared.taken.CoreOffered.TheVariants as on_offer
 use Rattle.board_core.specs.declared.taken.CoreClaimed.TheVariants as on_claim
 use Rattle.board_core.specs.declared.taken.Claim.{Claim}
 use Rattle.board_core.specs.declared.taken.CoreClaimed.{CoreClaimed}
-use Rattle.board_core.specs.Board.{plain, offer_entry, claim_entry, settle_entry, put_back_entry, claim_of, put_claim, without_claim, IsClaim}
+use Rattle.board_core.specs.Board.{plain, offer_entry, claim_entry, settle_entry, put_back_entry, claim_of, put_claim}
+use Rattle.board_core.specs.Board.{without_claim, IsClaim}
 use Rattle.board_core.specs.Calls.{Offers, Claims}
 use Rattle.board_core.specs.Replay.{Bare, replay, IsLegal, entries_of, claims_of}
 use Rattle.board_core.specs.Sound.{blank, blank_pair, IsSoundFor}

@@ -8,7 +8,8 @@ use Rattle.fuse_answer.specs.declared.leaves.TheConstants.{DENSE_KEYS, SMALL_ROW
 abbrev pub share : ℕ → ℕ → ℕ
 share workers rows = div_ceil rows workers
 
--- where maps are rows of lanes: as many rows as keys where there are enough for the workers, and no more than four times
+-- where maps are rows of lanes: as many rows as keys where there are enough for the workers, and no more than four
+-- times
 -- as many
 abbrev pub long_lane_leaf : ℕ → ℕ → ℕ → ℕ → ℕ
 long_lane_leaf workers leaf rows keys = max leaf (min (4 * keys) (max keys (share workers rows)))

@@ -17,7 +17,8 @@ use Rattle.shape_gen.proofs.Lists.{concats, map-map, flat_map-same}
 use Rattle.fuse_core.specs.Stands.{ShowsSums}
 use Rattle.fuse_core.proofs.Weighs.{Weighs}
 
-map-flat_map : {A B C : Type 0} (f : B → C) (g : A → List B) (xs : List A) → map f (flat_map g xs) ≡ flat_map (λ x. map f (g x)) xs
+map-flat_map : {A B C : Type 0} (f : B → C) (g : A → List B) (xs : List A)
+    → map f (flat_map g xs) ≡ flat_map (λ x. map f (g x)) xs
 map-flat_map f g [] = refl
 map-flat_map f g (x ∷ xs) = map-append f (g x) (flat_map g xs) ∙ ap (λ l. map f (g x) ++ l) (map-flat_map f g xs)
 
@@ -26,20 +27,24 @@ concats-pairs : {X : Type 0} (cs ds : List (List X)) → map (λ p. p.0 ++ p.1) 
 concats-pairs {X} cs ds =
     let joined : List X × List X → List X = λ p. p.0 ++ p.1 in
     map-flat_map joined (λ c. map (λ d. (c, d)) ds) cs
-    ∙ flat_map-same (λ c. map joined (map (λ d. (c, d)) ds)) (λ c. map (λ d. c ++ d) ds) cs (λ c. map-map joined (λ d. (c, d)) ds)
+    ∙ flat_map-same (λ c. map joined (map (λ d. (c, d)) ds)) (λ c. map (λ d. c ++ d) ds) cs
+    (λ c. map-map joined (λ d. (c, d)) ds)
 
-module _ {E : Type 0} {r : SemiringOn E} (laws : IsSemiring r) {size : ℕ} {times : ℕ → ℕ → ℕ} {key : List Mark → ℕ} {weight : List Mark → E}
+module _ {E : Type 0} {r : SemiringOn E} (laws : IsSemiring r) {size : ℕ} {times : ℕ → ℕ → ℕ} {key : List Mark → ℕ}
+    {weight : List Mark → E}
     (weighs : Weighs r size times key weight) where
   masked_sound : (m : ℕ) (c : List Mark) → r.is_sound (masked r (nat_eq (key c) m) (weight c))
   masked_sound m c = (masked-IsAdditive laws (nat_eq (key c) m)).keeps_elements (weight c) (weighs.is_sound c)
 
   -- the convolution of what two lists show is what all their concatenations show
-  pub product_shows : (cs ds : List (List Mark)) (x y : ℕ → E) → ShowsSums r key weight cs x → ShowsSums r key weight ds y
+  pub product_shows : (cs ds : List (List Mark)) (x y : ℕ → E) → ShowsSums r key weight cs x
+      → ShowsSums r key weight ds y
       → ShowsSums r key weight (concats cs ds) (convolution r size times x y)
   product_shows cs ds x y left right m =
       convolution-same r size times x (total_at_key r key weight cs) y (total_at_key r key weight ds) m left right
       ∙ convolution_of_totals-pairs laws size times key weight cs key weight ds m
-      (λ c c_in. weighs.is_sound c) (λ c c_in. weighs.in_range c) (λ d d_in. weighs.is_sound d) (λ d d_in. weighs.in_range d)
+      (λ c c_in. weighs.is_sound c) (λ c c_in. weighs.in_range c) (λ d d_in. weighs.is_sound d)
+      (λ d d_in. weighs.in_range d)
       ∙ product_by-same r.zero r.add
       (λ p. masked r (nat_eq (times (key p.0) (key p.1)) m) (r.mul (weight p.0) (weight p.1)))
       (λ p. masked r (nat_eq (key (p.0 ++ p.1)) m) (weight (p.0 ++ p.1))) (pairs cs ds)
@@ -60,4 +65,5 @@ module _ {E : Type 0} {r : SemiringOn E} (laws : IsSemiring r) {size : ℕ} {tim
   pub permuted_shows : (cs ds : List (List Mark)) (x : ℕ → E) → IsPermutation cs ds → ShowsSums r key weight ds x
       → ShowsSums r key weight cs x
   permuted_shows cs ds x permuted shows m =
-      shows m ∙ product_by-permuted laws.addition (λ c. masked r (nat_eq (key c) m) (weight c)) (masked_sound m) cs ds permuted
+      shows m ∙ product_by-permuted laws.addition (λ c. masked r (nat_eq (key c) m) (weight c)) (masked_sound m) cs
+      ds permuted

@@ -1,5 +1,6 @@
 -- Each list of a part has at most one mark of each row, so its weight reaches no further than the rows together.
-use Rattle.std.proofs.Common.{◌≡◌, refl, sym, ap, ◌∙◌, subst, ℕ, zero, suc, ◌+◌, ◌-◌, ◌*◌, ◌<◌, ◌≤◌, List, [], ◌∷◌, ◌++◌, map, nat_eq, Bool, true, false, ◌⊎◌, inl, inr, arith}
+use Rattle.std.proofs.Common.{◌≡◌, refl, sym, ap, ◌∙◌, subst, ℕ, zero, suc, ◌+◌, ◌-◌, ◌*◌, ◌<◌, ◌≤◌, List, [], ◌∷◌}
+use Rattle.std.proofs.Common.{◌++◌, map, nat_eq, Bool, true, false, ◌⊎◌, inl, inr, arith}
 use Rattle.std.proofs.lemmas.Bool.{cases_eq}
 use Rattle.std.specs.List.{range_with_len, flat_map}
 use Rattle.monoid_kit.specs.Items.{IsIn, AllElements}
@@ -29,14 +30,16 @@ Picks labels first (suc count) c =
 in-append : {X : Type 0} (x : X) (xs ys : List X) → IsIn x (xs ++ ys) → IsIn x xs ⊎ IsIn x ys
 in-append x [] ys x_in = inr x_in
 in-append x (y ∷ xs) ys (inl same) = inl (inl same)
-in-append x (y ∷ xs) ys (inr later) = elim (in-append x xs ys later) [ inl here ↦ inl (inr here) | inr there ↦ inr there ]
+in-append x (y ∷ xs) ys (inr later) = elim (in-append x xs ys later)
+    [ inl here ↦ inl (inr here) | inr there ↦ inr there ]
 
 pub in-map : {X Y : Type 0} (f : X → Y) (y : Y) (xs : List X) → IsIn y (map f xs) → (x : X) × (IsIn x xs) × (y ≡ f x)
 in-map f y [] y_in = elim y_in [ ]
 in-map f y (x ∷ xs) (inl same) = (x, inl refl, same)
 in-map f y (x ∷ xs) (inr later) = let found = in-map f y xs later in (found.0, inr found.1, found.2)
 
-in-flat_map : {X Y : Type 0} (f : X → List Y) (y : Y) (xs : List X) → IsIn y (flat_map f xs) → (x : X) × (IsIn x xs) × (IsIn y (f x))
+in-flat_map : {X Y : Type 0} (f : X → List Y) (y : Y) (xs : List X) → IsIn y (flat_map f xs)
+    → (x : X) × (IsIn x xs) × (IsIn y (f x))
 in-flat_map f y [] y_in = elim y_in [ ]
 in-flat_map f y (x ∷ xs) y_in =
     elim (in-append y (f x) (flat_map f xs) y_in) [
@@ -55,7 +58,8 @@ none-picks : (labels first count : ℕ) → Picks labels first count []
 none-picks labels first zero = refl
 none-picks labels first (suc count) = inl (none-picks labels (first + 1) count)
 
-sublists-picks : (labels first count : ℕ) (c : List Mark) → 1 ≤ labels → IsIn c (sublists first count) → Picks labels first count c
+sublists-picks : (labels first count : ℕ) (c : List Mark) → 1 ≤ labels → IsIn c (sublists first count)
+    → Picks labels first count c
 sublists-picks labels first zero c some (inl same) = same
 sublists-picks labels first zero c some (inr later) = elim later [ ]
 sublists-picks labels first (suc count) c some c_in =
@@ -67,7 +71,8 @@ sublists-picks labels first (suc count) c some c_in =
           inr (0, found.0, some, found.2, sublists-picks labels (first + 1) count found.0 some found.1)
     ]
 
-assignments-picks : (labels first count : ℕ) (c : List Mark) → IsIn c (assignments labels first count) → Picks labels first count c
+assignments-picks : (labels first count : ℕ) (c : List Mark) → IsIn c (assignments labels first count)
+    → Picks labels first count c
 assignments-picks labels first zero c (inl same) = same
 assignments-picks labels first zero c (inr later) = elim later [ ]
 assignments-picks labels first (suc count) c c_in =
@@ -97,26 +102,33 @@ run-picks labels first count zero k some within =
 run-picks labels first zero (suc i) k some within = absurd (omega arith)
 run-picks labels first (suc count) (suc i) k some within =
     let start : (first + 1) + i ≡ first + suc i = omega arith in
-    inl (subst (λ a. Picks labels (first + 1) count (run a k)) start (run-picks labels (first + 1) count i k some (omega arith)))
+    inl (subst (λ a. Picks labels (first + 1) count (run a k)) start
+    (run-picks labels (first + 1) count i k some (omega arith)))
 
-run-is : (labels first count i k start : ℕ) (c : List Mark) → 1 ≤ labels → i + k ≤ count → start ≡ first + i → c ≡ run start k
+run-is : (labels first count i k start : ℕ) (c : List Mark) → 1 ≤ labels → i + k ≤ count → start ≡ first + i
+    → c ≡ run start k
     → Picks labels first count c
 run-is labels first count i k start c some within at is =
-    subst (Picks labels first count) (ap (λ a. run a k) (sym at) ∙ sym is) (run-picks labels first count i k some within)
+    subst (Picks labels first count) (ap (λ a. run a k) (sym at) ∙ sym is)
+    (run-picks labels first count i k some within)
 
-prefixes-picks : (labels first count : ℕ) (c : List Mark) → 1 ≤ labels → IsIn c (prefixes first count) → Picks labels first count c
+prefixes-picks : (labels first count : ℕ) (c : List Mark) → 1 ≤ labels → IsIn c (prefixes first count)
+    → Picks labels first count c
 prefixes-picks labels first count c some c_in =
     let found = in-map (λ length. run first length) c (range_with_len 1 count) c_in in
     let bounds = in-range found.0 1 count found.1 in
     run-is labels first count 0 found.0 first c some (omega arith) (omega arith) found.2
 
-suffixes-picks : (labels first count : ℕ) (c : List Mark) → 1 ≤ labels → IsIn c (suffixes first count) → Picks labels first count c
+suffixes-picks : (labels first count : ℕ) (c : List Mark) → 1 ≤ labels → IsIn c (suffixes first count)
+    → Picks labels first count c
 suffixes-picks labels first count c some c_in =
     let found = in-map (λ length. run (first + count - length) length) c (range_with_len 1 count) c_in in
     let bounds = in-range found.0 1 count found.1 in
-    run-is labels first count (count - found.0) found.0 (first + count - found.0) c some (omega arith) (omega arith) found.2
+    run-is labels first count (count - found.0) found.0 (first + count - found.0) c some (omega arith) (omega arith)
+    found.2
 
-segments-picks : (labels first count : ℕ) (c : List Mark) → 1 ≤ labels → IsIn c (segments first count) → Picks labels first count c
+segments-picks : (labels first count : ℕ) (c : List Mark) → 1 ≤ labels → IsIn c (segments first count)
+    → Picks labels first count c
 segments-picks labels first zero c some c_in = elim c_in [ ]
 segments-picks labels first (suc count) c some c_in =
     elim (in-append c (prefixes first (suc count)) (segments (first + 1) count) c_in) [
@@ -124,7 +136,8 @@ segments-picks labels first (suc count) c some c_in =
       | inr later ↦ inl (segments-picks labels (first + 1) count c some later)
     ]
 
-whole_run-picks : (labels first count : ℕ) (c : List Mark) → 1 ≤ labels → IsIn c (run first count ∷ []) → Picks labels first count c
+whole_run-picks : (labels first count : ℕ) (c : List Mark) → 1 ≤ labels → IsIn c (run first count ∷ [])
+    → Picks labels first count c
 whole_run-picks labels first count c some (inl same) =
     run-is labels first count 0 count first c some (omega arith) (omega arith) same
 whole_run-picks labels first count c some (inr later) = elim later [ ]
@@ -159,7 +172,8 @@ module _ {E : Type 0} {r : SemiringOn E} (laws : IsSemiring r) (labels : ℕ) (l
   weight-reach : (first count : ℕ) (c : List Mark) → Picks labels first count c
       → r.reach (weight_of r labels letters c) ≤ rows_reach r labels letters first count
   weight-reach first zero c none =
-      let one : r.reach (weight_of r labels letters c) ≡ 0 = ap (λ d. r.reach (weight_of r labels letters d)) none ∙ laws.one_reach in
+      let one : r.reach (weight_of r labels letters c) ≡ 0 = ap (λ d. r.reach (weight_of r labels letters d)) none
+      ∙ laws.one_reach in
       omega arith
   weight-reach first (suc count) c (inl without) =
       let rest : r.reach (weight_of r labels letters c) ≤ rows_reach r labels letters (first + 1) count =
@@ -171,8 +185,10 @@ module _ {E : Type 0} {r : SemiringOn E} (laws : IsSemiring r) (labels : ℕ) (l
       greatest_below-at (λ label. r.reach (elem_at r.one letters (first * labels + label))) labels label below in
       let rest : r.reach (weight_of r labels letters d) ≤ rows_reach r labels letters (first + 1) count =
       weight-reach (first + 1) count d picks in
-      let product : r.reach (r.mul elem (weight_of r labels letters d)) ≤ r.reach elem + r.reach (weight_of r labels letters d) =
-      laws.mul_reach elem (weight_of r labels letters d) (elem_at-is_good laws letters (first * labels + label) elems).sound (sound d) in
+      let product : r.reach (r.mul elem (weight_of r labels letters d)) ≤ r.reach elem + r.reach
+      (weight_of r labels letters d) =
+      laws.mul_reach elem (weight_of r labels letters d)
+      (elem_at-is_good laws letters (first * labels + label) elems).sound (sound d) in
       let same : r.reach (weight_of r labels letters c) ≡ r.reach (r.mul elem (weight_of r labels letters d)) =
       ap (λ e. r.reach (weight_of r labels letters e)) is in
       omega arith
@@ -182,7 +198,8 @@ module _ {E : Type 0} {r : SemiringOn E} (laws : IsSemiring r) (labels : ℕ) (l
   masked-reach false a bound within = let none : r.reach r.zero ≡ 0 = laws.zero_reach in omega arith
 
   -- what shows the sums of a part reaches no further than its rows
-  pub shown-reach : (key : List Mark → ℕ) (shape : Shape) (component : Component) (lo hi : ℕ) (x : ℕ → E) (k : ℕ) → 1 ≤ labels
+  pub shown-reach : (key : List Mark → ℕ) (shape : Shape) (component : Component) (lo hi : ℕ) (x : ℕ → E) (k : ℕ)
+      → 1 ≤ labels
       → ShowsSums r key (weight_of r labels letters) (part shape labels component lo hi) x
       → r.reach (x k) ≤ rows_reach r labels letters lo (hi - lo)
   shown-reach key shape component lo hi x k some shows =
@@ -195,7 +212,8 @@ module _ {E : Type 0} {r : SemiringOn E} (laws : IsSemiring r) (labels : ℕ) (l
       (weight-reach lo (hi - lo) c (lists-pick shape labels component lo (hi - lo) c some c_in))))
 
 rows_reach-split : {E : Type 0} (r : SemiringOn E) (labels : ℕ) (letters : List (Letter E)) (first n k : ℕ)
-    → rows_reach r labels letters first (n + k) ≡ rows_reach r labels letters first n + rows_reach r labels letters (first + n) k
+    → rows_reach r labels letters first (n + k) ≡ rows_reach r labels letters first n + rows_reach r labels letters
+    (first + n) k
 rows_reach-split r labels letters first zero k =
     let count : zero + k ≡ k = omega arith in
     let place : first ≡ first + zero = omega arith in
@@ -206,7 +224,8 @@ rows_reach-split r labels letters first (suc n) k =
     let count : suc n + k ≡ suc (n + k) = omega arith in
     let place : (first + 1) + n ≡ first + suc n = omega arith in
     let rest = rows_reach-split r labels letters (first + 1) n k in
-    let whole : rows_reach r labels letters first (suc n + k) ≡ row_reach r labels letters first + rows_reach r labels letters (first + 1) (n + k) =
+    let whole : rows_reach r labels letters first (suc n + k) ≡ row_reach r labels letters first + rows_reach r
+    labels letters (first + 1) (n + k) =
     ap (rows_reach r labels letters first) count in
     let moved : rows_reach r labels letters ((first + 1) + n) k ≡ rows_reach r labels letters (first + suc n) k =
     ap (λ a. rows_reach r labels letters a k) place in
@@ -215,17 +234,20 @@ rows_reach-split r labels letters first (suc n) k =
 -- two neighbours within the rows reach no further together than all rows
 pub neighbours-reach : {E : Type 0} (r : SemiringOn E) (labels : ℕ) (letters : List (Letter E)) (lo mid hi rows : ℕ)
     → lo ≤ mid → mid ≤ hi → hi ≤ rows
-    → rows_reach r labels letters lo (mid - lo) + rows_reach r labels letters mid (hi - mid) ≤ rows_reach r labels letters 0 rows
+    → rows_reach r labels letters lo (mid - lo) + rows_reach r labels letters mid (hi - mid) ≤ rows_reach r labels
+    letters 0 rows
 neighbours-reach r labels letters lo mid hi rows left right within =
     let before = rows_reach-split r labels letters 0 lo (rows - lo) in
     let split = rows_reach-split r labels letters lo (mid - lo) (rows - mid) in
     let after = rows_reach-split r labels letters mid (hi - mid) (rows - hi) in
     let e1 : rows_reach r labels letters 0 (lo + (rows - lo)) ≡ rows_reach r labels letters 0 rows =
     ap (rows_reach r labels letters 0) (let e : lo + (rows - lo) ≡ rows = omega arith in e) in
-    let e2 : rows_reach r labels letters (0 + lo) (rows - lo) ≡ rows_reach r labels letters lo ((mid - lo) + (rows - mid)) =
+    let e2 : rows_reach r labels letters (0 + lo) (rows - lo) ≡ rows_reach r labels letters lo
+    ((mid - lo) + (rows - mid)) =
     ap (λ a. rows_reach r labels letters a (rows - lo)) (let e : 0 + lo ≡ lo = omega arith in e)
     ∙ ap (rows_reach r labels letters lo) (let e : rows - lo ≡ (mid - lo) + (rows - mid) = omega arith in e) in
-    let e3 : rows_reach r labels letters (lo + (mid - lo)) (rows - mid) ≡ rows_reach r labels letters mid ((hi - mid) + (rows - hi)) =
+    let e3 : rows_reach r labels letters (lo + (mid - lo)) (rows - mid) ≡ rows_reach r labels letters mid
+    ((hi - mid) + (rows - hi)) =
     ap (λ a. rows_reach r labels letters a (rows - mid)) (let e : lo + (mid - lo) ≡ mid = omega arith in e)
     ∙ ap (rows_reach r labels letters mid) (let e : rows - mid ≡ (hi - mid) + (rows - hi) = omega arith in e) in
     omega arith

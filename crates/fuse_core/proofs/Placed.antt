@@ -1,5 +1,6 @@
 -- Items by their places, lists taken item by item, and what a sum over them costs.
-use Rattle.std.proofs.Common.{◌≡◌, refl, sym, ap, ◌∙◌, subst, ℕ, zero, suc, ◌+◌, ◌-◌, ◌*◌, ◌<◌, ◌≤◌, ◌⊎◌, inl, inr, List, [], ◌∷◌, ◌++◌, length, take, drop, map, slice_index_or, arith, mul-le-mul_right}
+use Rattle.std.proofs.Common.{◌≡◌, refl, sym, ap, ◌∙◌, subst, ℕ, zero, suc, ◌+◌, ◌-◌, ◌*◌, ◌<◌, ◌≤◌, ◌⊎◌, inl, inr}
+use Rattle.std.proofs.Common.{List, [], ◌∷◌, ◌++◌, length, take, drop, map, slice_index_or, arith, mul-le-mul_right}
 use Rattle.std.proofs.lemmas.List.{append-nil, take_more, take_all, map-append}
 use Rattle.std.specs.List.{flat_map}
 use Rattle.shape_gen.proofs.Lists.{flat_map-append}
@@ -15,7 +16,8 @@ module _ {X : Type 0} where
   pub stands : (xs : List X) (i : ℕ) (x : X) → i < length xs → x ≡ slice_index_or xs i x → StandsAt xs i x
   stands xs i x within is = record { within = within; is = is }
 
-  pushed-cases : (xs : List X) (y : X) (place : ℕ) (x : X) → place < length (xs ++ y ∷ []) → x ≡ slice_index_or (xs ++ y ∷ []) place x
+  pushed-cases : (xs : List X) (y : X) (place : ℕ) (x : X) → place < length (xs ++ y ∷ [])
+      → x ≡ slice_index_or (xs ++ y ∷ []) place x
       → StandsAt xs place x ⊎ ((place ≡ length xs) × (x ≡ y))
   pushed-cases [] y zero x within is = inr (refl, is)
   pushed-cases [] y (suc place) x within is = absurd (omega arith)
@@ -26,7 +28,8 @@ module _ {X : Type 0} where
   ]
 
   -- what holds at each place holds with one item more, where it holds of that
-  pub each-push : (P : ℕ → X → Type 0) (xs ys : List X) (y : X) → ((place : ℕ) (x : X) → StandsAt xs place x → P place x)
+  pub each-push : (P : ℕ → X → Type 0) (xs ys : List X) (y : X)
+      → ((place : ℕ) (x : X) → StandsAt xs place x → P place x)
       → P (length xs) y → ys ≡ xs ++ y ∷ [] → (place : ℕ) (x : X) → StandsAt ys place x → P place x
   each-push P xs ys y each last is place x at =
       let there : StandsAt (xs ++ y ∷ []) place x = subst (λ l. StandsAt l place x) is at in
@@ -41,7 +44,8 @@ module _ {X : Type 0} where
   same-at (z ∷ xs) (suc place) x y x_at y_at =
       let x_in = x_at.within in
       let y_in = y_at.within in
-      same-at xs place x y (record { within = omega arith; is = x_at.is }) (record { within = omega arith; is = y_at.is })
+      same-at xs place x y (record { within = omega arith; is = x_at.is })
+      (record { within = omega arith; is = y_at.is })
 
   pub take-pushed : (xs : List X) (i : ℕ) (x : X) → StandsAt xs i x → take (i + 1) xs ≡ take i xs ++ x ∷ []
   take-pushed xs i x at = take_more xs i x at.within ∙ ap (λ y. take i xs ++ y ∷ []) (sym at.is)
@@ -76,7 +80,8 @@ module _ {X : Type 0} where
       let there = stands-default xs i default (omega arith) in
       record { within = within; is = there.is }
 
-any-default : {X : Type 0} (xs : List X) (i : ℕ) (x default : X) → i < length xs → slice_index_or xs i default ≡ x → x ≡ slice_index_or xs i x
+any-default : {X : Type 0} (xs : List X) (i : ℕ) (x default : X) → i < length xs → slice_index_or xs i default ≡ x
+    → x ≡ slice_index_or xs i x
 any-default [] i x default within is = absurd (omega arith)
 any-default (z ∷ xs) zero x default within is = sym is
 any-default (z ∷ xs) (suc i) x default within is = any-default xs i x default (omega arith) is
@@ -90,7 +95,11 @@ behind-at (y ∷ ys) i x default within is =
     let inside : i < length ys = subst (λ l. i < length l) all within in
     let next : suc i ≡ i + 1 = omega arith in
     subst (λ n. StandsAt (y ∷ ys) n x) next
-    (record { within = omega arith; is = any-default ys i x default inside (subst (λ l. slice_index_or l i default ≡ x) all is) })
+    (record {
+      within = omega arith;
+      is = any-default ys i x default inside
+          (subst (λ l. slice_index_or l i default ≡ x) all is);
+    })
 
 pub behind-all : {X : Type 0} (xs : List X) (i : ℕ) → length (take (length xs - 1) (drop 1 xs)) ≤ i → length xs ≤ i + 1
 behind-all [] i past = omega arith
@@ -101,7 +110,8 @@ behind-all (y ∷ ys) i past =
 
 -- costs
 
-pub cost-more : (done one all each old mid new : ℕ) → all ≡ done + one → mid ≤ old + done * each → new ≤ mid + one * each
+pub cost-more : (done one all each old mid new : ℕ) → all ≡ done + one → mid ≤ old + done * each
+    → new ≤ mid + one * each
     → new ≤ old + all * each
 cost-more done one all each old mid new split so_far more =
     let product : all * each ≡ (done + one) * each = ap (λ n. n * each) split in
@@ -119,7 +129,8 @@ shifts-append (Alone label ∷ xs) ys = shifts-append xs ys
 shifts-append (Before label place ∷ xs) ys = let rest = shifts-append xs ys in omega arith
 shifts-append (Same place ∷ xs) ys = shifts-append xs ys
 
-pub shifts-pushed : (xs : List Growth) (i : ℕ) (x : Growth) → StandsAt xs i x → shifts (take (i + 1) xs) ≡ shifts (take i xs) + shifts (x ∷ [])
+pub shifts-pushed : (xs : List Growth) (i : ℕ) (x : Growth) → StandsAt xs i x
+    → shifts (take (i + 1) xs) ≡ shifts (take i xs) + shifts (x ∷ [])
 shifts-pushed xs i x at = ap shifts (take-pushed xs i x at) ∙ shifts-append (take i xs) (x ∷ [])
 
 pub shifts-take : (i : ℕ) (xs : List Growth) → shifts (take i xs) ≤ shifts xs
@@ -157,7 +168,8 @@ all_shifts-pushed xs i x at =
     ap (λ l. all_shifts (map wires_on l)) (take-pushed xs i x at)
     ∙ ap all_shifts (map-append wires_on (take i xs) (x ∷ []))
     ∙ all_shifts-append (map wires_on (take i xs)) (wires_on x ∷ [])
-    ∙ (let none : shifts x.growths.items + 0 ≡ shifts x.growths.items = omega arith in ap (λ n. all_shifts (map wires_on (take i xs)) + n) none)
+    ∙ (let none : shifts x.growths.items + 0 ≡ shifts x.growths.items = omega arith in ap
+    (λ n. all_shifts (map wires_on (take i xs)) + n) none)
 
 pub all_shifts-take : (i : ℕ) (xs : List Wires) → all_shifts (map wires_on (take i xs)) ≤ all_shifts (map wires_on xs)
 all_shifts-take zero xs = omega arith
@@ -169,14 +181,17 @@ all_crossings-append [] ys = omega arith
 all_crossings-append (x ∷ xs) ys = let rest = all_crossings-append xs ys in omega arith
 
 pub all_crossings-pushed : (xs : List Wires) (i : ℕ) (x : Wires) → StandsAt xs i x
-    → all_crossings (map wires_on (take (i + 1) xs)) ≡ all_crossings (map wires_on (take i xs)) + crossings x.sources.items
+    → all_crossings (map wires_on (take (i + 1) xs)) ≡ all_crossings (map wires_on (take i xs)) + crossings
+    x.sources.items
 all_crossings-pushed xs i x at =
     ap (λ l. all_crossings (map wires_on l)) (take-pushed xs i x at)
     ∙ ap all_crossings (map-append wires_on (take i xs) (x ∷ []))
     ∙ all_crossings-append (map wires_on (take i xs)) (wires_on x ∷ [])
-    ∙ (let none : crossings x.sources.items + 0 ≡ crossings x.sources.items = omega arith in ap (λ n. all_crossings (map wires_on (take i xs)) + n) none)
+    ∙ (let none : crossings x.sources.items + 0 ≡ crossings x.sources.items = omega arith in ap
+    (λ n. all_crossings (map wires_on (take i xs)) + n) none)
 
-pub all_crossings-take : (i : ℕ) (xs : List Wires) → all_crossings (map wires_on (take i xs)) ≤ all_crossings (map wires_on xs)
+pub all_crossings-take : (i : ℕ) (xs : List Wires)
+    → all_crossings (map wires_on (take i xs)) ≤ all_crossings (map wires_on xs)
 all_crossings-take zero xs = omega arith
 all_crossings-take (suc i) [] = omega arith
 all_crossings-take (suc i) (x ∷ xs) = let rest = all_crossings-take i xs in omega arith

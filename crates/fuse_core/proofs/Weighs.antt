@@ -12,7 +12,8 @@ use Rattle.fuse_core.specs.declared.letter.Letter.{Letter}
 use Rattle.fuse_core.specs.Letters.{key_at, elem_at, place_of, key_of, weight_of, HasLetters}
 
 -- what a key and a weight of lists keep
-pub record Weighs {E : Type 0} (r : SemiringOn E) (size : ℕ) (times : ℕ → ℕ → ℕ) (key : List Mark → ℕ) (weight : List Mark → E) : Type 0 where
+pub record Weighs {E : Type 0} (r : SemiringOn E) (size : ℕ) (times : ℕ → ℕ → ℕ) (key : List Mark → ℕ)
+    (weight : List Mark → E) : Type 0 where
   pub in_range : (c : List Mark) → key c < size
   pub is_sound : (c : List Mark) → r.is_sound (weight c)
   pub key_append : (c d : List Mark) → key (c ++ d) ≡ times (key c) (key d)
@@ -29,19 +30,24 @@ pub elem_at-is_good : {E : Type 0} {r : SemiringOn E} (laws : IsSemiring r) (let
     → AllElements (IsGood r) (λ letter. letter.elem) letters → IsGood r (elem_at r.one letters place)
 elem_at-is_good laws [] place elems = one_is_good laws
 elem_at-is_good laws (letter ∷ letters) zero elems = elems letter (inl refl)
-elem_at-is_good laws (letter ∷ letters) (suc place) elems = elem_at-is_good laws letters place (λ l l_in. elems l (inr l_in))
+elem_at-is_good laws (letter ∷ letters) (suc place) elems = elem_at-is_good laws letters place
+    (λ l l_in. elems l (inr l_in))
 
-module _ {E : Type 0} {r : SemiringOn E} (laws : IsSemiring r) {size unit : ℕ} {times : ℕ → ℕ → ℕ} (monoid : IsMonoid size unit times)
-    (shape : Shape) (rows labels : ℕ) (letters : List (Letter E)) (has : HasLetters r size shape rows labels letters) where
-  pub weighs : Weighs r size times (key_of unit times labels letters) (weight_of r labels letters)
-  weighs =
-      let key = λ (m : Mark). key_at unit letters (place_of labels m) in
-      let elem = λ (m : Mark). elem_at r.one letters (place_of labels m) in
-      let key_in = λ (m : Mark). key_at-in_range size unit letters (place_of labels m) monoid.unit_is_element has.keys in
-      let elem_sound = λ (m : Mark). (elem_at-is_good laws letters (place_of labels m) has.elems).sound in
-      record {
-        in_range = λ c. product_by-is_element monoid key c (λ m m_in. key_in m);
-        is_sound = λ c. product_by-is_element laws.multiplication elem c (λ m m_in. elem_sound m);
-        key_append = λ c d. product_by-append monoid key c d (λ m m_in. key_in m) (λ m m_in. key_in m);
-        weight_append = λ c d. product_by-append laws.multiplication elem c d (λ m m_in. elem_sound m) (λ m m_in. elem_sound m);
-      }
+module _ {E : Type 0} {r : SemiringOn E} (laws : IsSemiring r) {size unit : ℕ} {times : ℕ → ℕ → ℕ}
+    (monoid : IsMonoid size unit times)
+    (shape : Shape) (rows labels : ℕ) (letters : List (Letter E)) (has : HasLetters r size shape rows labels letters)
+  where
+    pub weighs : Weighs r size times (key_of unit times labels letters) (weight_of r labels letters)
+    weighs =
+        let key = λ (m : Mark). key_at unit letters (place_of labels m) in
+        let elem = λ (m : Mark). elem_at r.one letters (place_of labels m) in
+        let key_in = λ (m : Mark). key_at-in_range size unit letters (place_of labels m) monoid.unit_is_element
+        has.keys in
+        let elem_sound = λ (m : Mark). (elem_at-is_good laws letters (place_of labels m) has.elems).sound in
+        record {
+          in_range = λ c. product_by-is_element monoid key c (λ m m_in. key_in m);
+          is_sound = λ c. product_by-is_element laws.multiplication elem c (λ m m_in. elem_sound m);
+          key_append = λ c d. product_by-append monoid key c d (λ m m_in. key_in m) (λ m m_in. key_in m);
+          weight_append = λ c d. product_by-append laws.multiplication elem c d (λ m m_in. elem_sound m)
+              (λ m m_in. elem_sound m);
+        }

@@ -44,11 +44,13 @@ row_reach r labels letters row = greatest_below (λ label. r.reach (elem_at r.on
 -- how far count rows from first on reach together
 abbrev pub rows_reach : {E : Type 0} → SemiringOn E → ℕ → List (Letter E) → ℕ → ℕ → ℕ
 rows_reach r labels letters first zero = 0
-rows_reach r labels letters first (suc count) = row_reach r labels letters first + rows_reach r labels letters (first + 1) count
+rows_reach r labels letters first (suc count) = row_reach r labels letters first + rows_reach r labels letters
+    (first + 1) count
 
 -- what a plan's letters keep: there is one for each row and label, keys are elements, values are good, and the rows
 -- together reach no further than the bound
-pub record HasLetters {E : Type 0} (r : SemiringOn E) (size : ℕ) (shape : Shape) (rows labels : ℕ) (letters : List (Letter E)) : Type 0 where
+pub record HasLetters {E : Type 0} (r : SemiringOn E) (size : ℕ) (shape : Shape) (rows labels : ℕ)
+    (letters : List (Letter E)) : Type 0 where
   pub some_label : 1 ≤ labels
   pub one_label : (shape ≡ Assign) ⊎ (labels ≡ 1)
   pub count : length letters ≡ rows * labels

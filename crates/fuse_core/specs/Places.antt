@@ -23,7 +23,8 @@ ShowEach {M} shows lists maps = (place : ℕ) (map : M) → StandsAt maps place 
 
 -- each map may follow the row with each label
 abbrev pub MayFollow : {M : Type 0} → (ℕ → M → Type 0) → ℕ → List M → Type 0
-MayFollow {M} follows labels maps = (place : ℕ) (map : M) (label : ℕ) → StandsAt maps place map → label < labels → follows label map
+MayFollow {M} follows labels maps = (place : ℕ) (map : M) (label : ℕ) → StandsAt maps place map → label < labels
+    → follows label map
 
 -- each map may be joined with each of the others
 abbrev pub MayCross : {M : Type 0} → (M → M → Type 0) → List M → List M → Type 0
@@ -41,12 +42,15 @@ WiresGrow labels width wires =
 -- these are the lists that a row brings
 abbrev pub Brings : ℕ → (ℕ → List (List Mark)) → (ℕ → List (List Mark)) → List Wires → Type 0
 Brings row later added wires =
-    (place : ℕ) (w : Wires) → StandsAt wires place w → added place ≡ flat_map (growth_lists row later added) w.growths.items
+    (place : ℕ) (w : Wires) → StandsAt wires place w
+    → added place ≡ flat_map (growth_lists row later added) w.growths.items
 
 -- each map shows the lists that are kept, and those that the row brings
-abbrev pub ShowGrown : {M : Type 0} → (List (List Mark) → M → Type 0) → (ℕ → List (List Mark)) → (ℕ → List (List Mark)) → List Wires → List M → Type 0
+abbrev pub ShowGrown : {M : Type 0} → (List (List Mark) → M → Type 0) → (ℕ → List (List Mark))
+    → (ℕ → List (List Mark)) → List Wires → List M → Type 0
 ShowGrown {M} shows later added wires maps =
-    (place : ℕ) (w : Wires) (map : M) → StandsAt wires place w → StandsAt maps place map → shows (kept_lists w.keeps (later place) ++ added place) map
+    (place : ℕ) (w : Wires) (map : M) → StandsAt wires place w → StandsAt maps place map
+    → shows (kept_lists w.keeps (later place) ++ added place) map
 
 -- each map shows the empty list or none
 abbrev pub ShowNoRow : {M : Type 0} → (List (List Mark) → M → Type 0) → List Wires → List M → Type 0
@@ -62,7 +66,8 @@ abbrev pub WiresJoin : ℕ → List Wires → Type 0
 WiresJoin width wires = (place : ℕ) (w : Wires) → StandsAt wires place w → SourcesWithin width w.sources.items
 
 -- each map shows the lists of its sources
-abbrev pub ShowJoined : {M : Type 0} → (List (List Mark) → M → Type 0) → (ℕ → List (List Mark)) → (ℕ → List (List Mark)) → List Wires → List M → Type 0
+abbrev pub ShowJoined : {M : Type 0} → (List (List Mark) → M → Type 0) → (ℕ → List (List Mark))
+    → (ℕ → List (List Mark)) → List Wires → List M → Type 0
 ShowJoined {M} shows left right wires maps =
     (place : ℕ) (w : Wires) (map : M) → StandsAt wires place w → StandsAt maps place map
     → shows (flat_map (source_lists left right) w.sources.items) map

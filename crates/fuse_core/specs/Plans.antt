@@ -19,5 +19,6 @@ abbrev pub accepts : List Bool → ℕ → Bool
 accepts accept key = slice_index_or accept key false
 
 -- the sum of the weights of those lists whose keys are accepted
-abbrev pub accepted_sum : {E : Type 0} → SemiringOn E → (List Mark → ℕ) → (List Mark → E) → List Bool → List (List Mark) → E
+abbrev pub accepted_sum : {E : Type 0} → SemiringOn E → (List Mark → ℕ) → (List Mark → E) → List Bool
+    → List (List Mark) → E
 accepted_sum r key weight accept lists = total r weight (filter (λ c. accepts accept (key c)) lists)

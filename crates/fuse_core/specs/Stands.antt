@@ -7,7 +7,8 @@ use Rattle.shape_gen.specs.declared.shape.Shape.{Shape}
 use Rattle.shape_gen.specs.Parts.{Component, components, part}
 
 -- at each key, the value is the sum of the weights of those lists that have this key
-abbrev pub ShowsSums : {E : Type 0} → SemiringOn E → (List Mark → ℕ) → (List Mark → E) → List (List Mark) → (ℕ → E) → Type 0
+abbrev pub ShowsSums : {E : Type 0} → SemiringOn E → (List Mark → ℕ) → (List Mark → E) → List (List Mark) → (ℕ → E)
+    → Type 0
 ShowsSums r key weight lists value_at = (m : ℕ) → value_at m ≡ total_at_key r key weight lists m
 
 -- a map fits its kit and shows the sums of the lists
@@ -27,4 +28,5 @@ HoldsOfEach P (component ∷ components) (map ∷ maps) = P component map × Hol
 abbrev pub Stands : {E M : Type 0} → SemiringOn E → (List Mark → ℕ) → (List Mark → E) → (M → Type 0) → (M → ℕ → E)
     → Shape → ℕ → ℕ → ℕ → List M → Type 0
 Stands r key weight fits value_at shape labels lo hi maps =
-    HoldsOfEach (λ component map. Shows r key weight fits value_at (part shape labels component lo hi) map) (components shape) maps
+    HoldsOfEach (λ component map. Shows r key weight fits value_at (part shape labels component lo hi) map)
+    (components shape) maps

@@ -151,7 +151,8 @@ wiring shape labels = map (wires shape labels) (components shape)
 
 -- the end
 
--- where a shape's candidates are once all rows are joined: whole lists, or else nonempty ones, and the empty one besides
+-- where a shape's candidates are once all rows are joined: whole lists, or else nonempty ones, and the empty one
+-- besides
 abbrev pub ending : Shape → Ending
 ending Sublists = record { place = 0; adds_empty = false }
 ending Assign = record { place = 0; adds_empty = false }

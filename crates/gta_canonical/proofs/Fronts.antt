@@ -9,7 +9,11 @@ use Rattle.gta_spec.specs.declared.parts.AtomPart.{AtomPart}
 use Rattle.gta_spec.specs.declared.parts.AtomPart.TheVariants.{Label, Column}
 use Rattle.gta_spec.specs.Parts.{CaseTree, PickTree, Fold, Table}
 use Rattle.gta_spec.specs.Symbols.{Word}
-use Rattle.gta_canonical.specs.Canonical.{Piece, spaced, glued, piece_text, line_text, fronts, name_front, names_front, num_front, header_front, item_front, atom_front, and_front, if_front, quantity_front, first_sign_front, first_term_front, next_term_front, form_front, case_front, next_case_front, cases_front, pick_front, next_pick_front, picks_front, test_front, kind_front}
+use Rattle.gta_canonical.specs.Canonical.{Piece, spaced, glued, piece_text, line_text, fronts, name_front}
+use Rattle.gta_canonical.specs.Canonical.{names_front, num_front, header_front, item_front, atom_front, and_front}
+use Rattle.gta_canonical.specs.Canonical.{if_front, quantity_front, first_sign_front, first_term_front}
+use Rattle.gta_canonical.specs.Canonical.{next_term_front, form_front, case_front, next_case_front, cases_front}
+use Rattle.gta_canonical.specs.Canonical.{pick_front, next_pick_front, picks_front, test_front, kind_front}
 
 -- pieces in front of a rest
 pub record IsFront (front : List Piece → List Piece) : Type 0 where
@@ -23,7 +27,8 @@ one piece = record { splits = λ rest. ap (λ ts. ts ++ line_text rest) (sym (ap
 
 chain : {f g : List Piece → List Piece} → IsFront f → IsFront g → IsFront (λ rest. f (g rest))
 chain {f = f} {g = g} first second = record {
-  splits = λ rest. rw (first.splits (g rest), second.splits rest, first.splits (g [])) (sym (append_assoc (line_text (f [])) (line_text (g [])) (line_text rest)));
+  splits = λ rest. rw (first.splits (g rest), second.splits rest, first.splits (g []))
+      (sym (append_assoc (line_text (f [])) (line_text (g [])) (line_text rest)));
 }
 
 pub num_text : (z : ℤ) → line_text (num_front z []) ≡ 32 ∷ signed_decimal z
@@ -48,7 +53,8 @@ atom_is_front (Column x c z) = chain (one _) (chain (one _) (num_is_front z))
 pub and_is_front : (x : AtomPart) → IsFront (and_front x)
 and_is_front x = chain (one _) (atom_is_front x)
 
-fronts_is_front : {A : Type 0} {front : A → List Piece → List Piece} → ((x : A) → IsFront (front x)) → (xs : List A) → IsFront (fronts front xs)
+fronts_is_front : {A : Type 0} {front : A → List Piece → List Piece} → ((x : A) → IsFront (front x)) → (xs : List A)
+    → IsFront (fronts front xs)
 fronts_is_front each [] = nothing_front
 fronts_is_front each (x ∷ xs) = chain (each x) (fronts_is_front each xs)
 
@@ -98,57 +104,77 @@ picks_is_front (x ∷ xs) = chain (pick_is_front x) (fronts_is_front next_pick_i
 
 -- in the form that the code's goals have
 
-pub atom_splits : (x : AtomPart) (rest : List Piece) → line_text (atom_front x rest) ≡ line_text (atom_front x []) ++ line_text rest
+pub atom_splits : (x : AtomPart) (rest : List Piece)
+    → line_text (atom_front x rest) ≡ line_text (atom_front x []) ++ line_text rest
 atom_splits x rest = (atom_is_front x).splits rest
 
-pub first_term_splits : (x : TermPart) (rest : List Piece) → line_text (first_term_front x rest) ≡ line_text (first_term_front x []) ++ line_text rest
+pub first_term_splits : (x : TermPart) (rest : List Piece)
+    → line_text (first_term_front x rest) ≡ line_text (first_term_front x []) ++ line_text rest
 first_term_splits x rest = (first_term_is_front x).splits rest
 
-pub form_splits : (xs : List TermPart) (rest : List Piece) → line_text (form_front xs rest) ≡ line_text (form_front xs []) ++ line_text rest
+pub form_splits : (xs : List TermPart) (rest : List Piece)
+    → line_text (form_front xs rest) ≡ line_text (form_front xs []) ++ line_text rest
 form_splits xs rest = (form_is_front xs).splits rest
 
-pub case_splits : (x : CaseTree) (rest : List Piece) → line_text (case_front x rest) ≡ line_text (case_front x []) ++ line_text rest
+pub case_splits : (x : CaseTree) (rest : List Piece)
+    → line_text (case_front x rest) ≡ line_text (case_front x []) ++ line_text rest
 case_splits x rest = (case_is_front x).splits rest
 
-pub pick_splits : (x : PickTree) (rest : List Piece) → line_text (pick_front x rest) ≡ line_text (pick_front x []) ++ line_text rest
+pub pick_splits : (x : PickTree) (rest : List Piece)
+    → line_text (pick_front x rest) ≡ line_text (pick_front x []) ++ line_text rest
 pick_splits x rest = (pick_is_front x).splits rest
 
-pub picks_splits : (xs : List PickTree) (rest : List Piece) → line_text (picks_front xs rest) ≡ line_text (picks_front xs []) ++ line_text rest
+pub picks_splits : (xs : List PickTree) (rest : List Piece)
+    → line_text (picks_front xs rest) ≡ line_text (picks_front xs []) ++ line_text rest
 picks_splits xs rest = (picks_is_front xs).splits rest
 
 -- what is written, and the items that are still to be written, is the whole
-pub record Written {A : Type 0} (front : A → List Piece → List Piece) (out : List ℕ) (left : List A) (whole : List ℕ) : Type 0 where
+pub record Written {A : Type 0} (front : A → List Piece → List Piece) (out : List ℕ) (left : List A)
+    (whole : List ℕ) : Type 0 where
   pub joined : out ++ line_text (fronts front left []) ≡ whole
 
-pub written_at_item : {A : Type 0} {front : A → List Piece → List Piece} {out now : List ℕ} {x : A} {left : List A} {whole : List ℕ}
-    → ((x : A) → IsFront (front x)) → Written front out (x ∷ left) whole → now ≡ out ++ line_text (front x []) → Written front now left whole
+pub written_at_item : {A : Type 0} {front : A → List Piece → List Piece} {out now : List ℕ} {x : A} {left : List A}
+    {whole : List ℕ}
+    → ((x : A) → IsFront (front x)) → Written front out (x ∷ left) whole → now ≡ out ++ line_text (front x [])
+    → Written front now left whole
 written_at_item {front = front} {out = out} {x = x} {left = left} each written more = record {
   joined = rw (more, append_assoc, ← (each x).splits (fronts front left [])) written.joined;
 }
 
-pub written_at_end : {A : Type 0} {front : A → List Piece → List Piece} {out : List ℕ} {whole : List ℕ} → Written front out [] whole → out ≡ whole
+pub written_at_end : {A : Type 0} {front : A → List Piece → List Piece} {out : List ℕ} {whole : List ℕ}
+    → Written front out [] whole → out ≡ whole
 written_at_end {out = out} written = sym (append-nil out) ∙ written.joined
 
 pub name_is_front : (x : List ℕ) → IsFront (name_front x)
 name_is_front x = one _
 
-pub three_splits : (a b c : Piece) (rest : List Piece) → line_text (a ∷ b ∷ c ∷ rest) ≡ line_text (a ∷ b ∷ c ∷ []) ++ line_text rest
+pub three_splits : (a b c : Piece) (rest : List Piece)
+    → line_text (a ∷ b ∷ c ∷ rest) ≡ line_text (a ∷ b ∷ c ∷ []) ++ line_text rest
 three_splits a b c rest = (chain (one a) (chain (one b) (one c))).splits rest
 
-pub table_splits : (x u : List ℕ) (es : List (List ℕ)) → line_text (kind_front (Table (record { name = x; unit = u; elements = es })) [])
+pub table_splits : (x u : List ℕ) (es : List (List ℕ))
+    → line_text (kind_front (Table (record { name = x; unit = u; elements = es })) [])
     ≡ (codes "table" ++ line_text (spaced (Word x) ∷ spaced (Word (codes "unit")) ∷ spaced (Word u) ∷ []))
     ++ line_text (spaced (Word (codes "elements")) ∷ names_front es [])
-table_splits x u es = (chain (one (glued (Word (codes "table")))) (chain (one (spaced (Word x))) (chain (one (spaced (Word (codes "unit")))) (one (spaced (Word u)))))).splits (spaced (Word (codes "elements")) ∷ names_front es [])
+table_splits x u es =
+    (chain (one (glued (Word (codes "table"))))
+    (chain (one (spaced (Word x))) (chain (one (spaced (Word (codes "unit")))) (one (spaced (Word u)))))).splits
+    (spaced (Word (codes "elements")) ∷ names_front es [])
 
 pub fold_splits : (x : List ℕ) (ps : List PickTree) (es : List (List ℕ)) → line_text (test_front (Fold x ps es) [])
-    ≡ (line_text (spaced (Word (codes "fold")) ∷ spaced (Word x) ∷ spaced (Word (codes "by")) ∷ []) ++ line_text (picks_front ps []))
+    ≡ (line_text (spaced (Word (codes "fold")) ∷ spaced (Word x) ∷ spaced (Word (codes "by")) ∷ []) ++ line_text
+    (picks_front ps []))
     ++ line_text (spaced (Word (codes "accept")) ∷ names_front es [])
 fold_splits x ps es =
     let listed = spaced (Word (codes "accept")) ∷ names_front es [] in
-    (chain (one (spaced (Word (codes "fold")))) (chain (one (spaced (Word x))) (chain (one (spaced (Word (codes "by")))) (picks_is_front ps)))).splits listed
-    ∙ ap (λ (t : List ℕ). t ++ line_text listed) (three_splits (spaced (Word (codes "fold"))) (spaced (Word x)) (spaced (Word (codes "by"))) (picks_front ps []))
+    (chain (one (spaced (Word (codes "fold"))))
+    (chain (one (spaced (Word x))) (chain (one (spaced (Word (codes "by")))) (picks_is_front ps)))).splits listed
+    ∙ ap (λ (t : List ℕ). t ++ line_text listed)
+    (three_splits (spaced (Word (codes "fold"))) (spaced (Word x)) (spaced (Word (codes "by")))
+    (picks_front ps []))
 
 -- two writes, where the second may fail
-pub joined : {T E : Type 0} (r : Result T E) (old mid new a b whole : List ℕ) → OnOk r (new ≡ mid ++ b) → mid ≡ old ++ a → whole ≡ a ++ b → OnOk r (new ≡ old ++ whole)
+pub joined : {T E : Type 0} (r : Result T E) (old mid new a b whole : List ℕ) → OnOk r (new ≡ mid ++ b)
+    → mid ≡ old ++ a → whole ≡ a ++ b → OnOk r (new ≡ old ++ whole)
 joined (Ok x) old mid new a b whole last first parts = rw (last, first, parts) (append_assoc old a b)
 joined (Err e) old mid new a b whole last first parts = last

@@ -1,5 +1,6 @@
 -- The tokens of the text of pieces are their symbols.
-use Rattle.std.proofs.Common.{◌≡◌, ℕ, suc, ◌+◌, ◌-◌, ◌≤◌, ◌<◌, ◌^◌, Bool, true, false, cond, ◌&&◌, List, [], ◌∷◌, ◌++◌, length, map, refl, ap, ◌∙◌, arith, append_assoc, one-add, length-append}
+use Rattle.std.proofs.Common.{◌≡◌, ℕ, suc, ◌+◌, ◌-◌, ◌≤◌, ◌<◌, ◌^◌, Bool, true, false, cond, ◌&&◌, List, [], ◌∷◌}
+use Rattle.std.proofs.Common.{◌++◌, length, map, refl, ap, ◌∙◌, arith, append_assoc, one-add, length-append}
 use Rattle.std.proofs.lemmas.Bool.Decides.{nat_tests}
 use Rattle.std.proofs.Math.Seq.{take-append_seam, drop-append_seam}
 use Rattle.std.proofs.lemmas.Fmt.{digits_decimal, digits_value-decimal, decimal_nonempty}
@@ -64,9 +65,11 @@ abbrev pub AreWritable : List Piece → Type 0
 AreWritable [] = Unit {0}
 AreWritable (p ∷ ps) = Writable p.symbol × ClosedBehind p.symbol ps × AreWritable ps
 
-prefix_seam : (p : ℕ → Bool) (xs t : List ℕ) → list_all p xs ≡ true → prefix_len p t ≡ 0 → prefix_len p (xs ++ t) ≡ length xs
+prefix_seam : (p : ℕ → Bool) (xs t : List ℕ) → list_all p xs ≡ true → prefix_len p t ≡ 0
+    → prefix_len p (xs ++ t) ≡ length xs
 prefix_seam p [] t all none = none
-prefix_seam p (x ∷ xs) t all none = elim (p x) as (λ b. (b && list_all p xs) ≡ true → cond b (1 + prefix_len p (xs ++ t)) 0 ≡ suc (length xs))
+prefix_seam p (x ∷ xs) t all none = elim (p x) as
+    (λ b. (b && list_all p xs) ≡ true → cond b (1 + prefix_len p (xs ++ t)) 0 ≡ suc (length xs))
     [ true ↦ (λ e. simp one-add (ap (λ n. suc n) (prefix_seam p xs t e none))) | false ↦ (λ e. absurd cc) ] all
 
 skip_seam : (bs t : List ℕ) → spelled_from (length bs) (bs ++ t) ≡ spelled_from 0 t
@@ -74,7 +77,8 @@ unfolding spelled_from
 skip_seam [] t = refl
 skip_seam (b ∷ bs) t = skip_seam bs t
 
-token_step : (b : ℕ) (bs t : List ℕ) (kind : TokenKind) → is_blank b ≡ false → nat_eq b 35 ≡ false → token_at b (bs ++ t) ≡ (kind, length bs)
+token_step : (b : ℕ) (bs t : List ℕ) (kind : TokenKind) → is_blank b ≡ false → nat_eq b 35 ≡ false
+    → token_at b (bs ++ t) ≡ (kind, length bs)
     → spelled_from 0 (b ∷ (bs ++ t)) ≡ (kind, b ∷ bs) ∷ spelled_from 0 t
 unfolding spelled_from
 token_step b bs t kind not_blank no_comment token =
@@ -103,7 +107,8 @@ digit_no_comment b e = grind (arith, nat_tests)
 digit_no_letter : (b : ℕ) → is_digit b ≡ true → is_letter b ≡ false
 digit_no_letter b e = grind (arith, nat_tests)
 
-word_token : (b : ℕ) (bs t : List ℕ) → is_letter b ≡ true → list_all is_word_byte bs ≡ true → prefix_len is_word_byte t ≡ 0
+word_token : (b : ℕ) (bs t : List ℕ) → is_letter b ≡ true → list_all is_word_byte bs ≡ true
+    → prefix_len is_word_byte t ≡ 0
     → token_at b (bs ++ t) ≡ (kinds.Word, length bs)
 unfolding token_at
 word_token b bs t letter all none = rw (letter, prefix_seam is_word_byte bs t all none) refl
@@ -113,7 +118,8 @@ digits_token : (b : ℕ) (bs t : List ℕ) → is_digit b ≡ true → list_all 
 unfolding token_at
 digits_token b bs t digit all none = rw (digit_no_letter b digit, digit, prefix_seam is_digit bs t all none) refl
 
-text_token : (x t : List ℕ) → list_all is_text_byte x ≡ true → token_at 34 ((x ++ 34 ∷ []) ++ t) ≡ (kinds.Text, length (x ++ 34 ∷ []))
+text_token : (x t : List ℕ) → list_all is_text_byte x ≡ true
+    → token_at 34 ((x ++ 34 ∷ []) ++ t) ≡ (kinds.Text, length (x ++ 34 ∷ []))
 unfolding token_at
 text_token x t all =
     let len : length (x ++ 34 ∷ []) ≡ length x + 1 = length-append x (34 ∷ []) in
@@ -141,12 +147,14 @@ value_again : (n : ℕ) → n ≤ NUMBER_BOUND → unwrap_or (digits_number (dec
 value_again n le =
     let all : list_all is_digit (decimal n) ≡ true = digits_decimal own n (small n le) in
     let value : digits_value 10 (decimal n) ≡ n = digits_value-decimal own n (small n le) in
-    let some : nat_lt 0 (length (decimal n)) ≡ true = let lt : 0 < length (decimal n) = decimal_nonempty n (small n le) in grind (arith, nat_tests) in
+    let some : nat_lt 0 (length (decimal n)) ≡ true = let lt : 0 < length (decimal n) = decimal_nonempty n
+    (small n le) in grind (arith, nat_tests) in
     let bound : nat_le n NUMBER_BOUND ≡ true = grind (arith, nat_tests) in
     rw (some, all, value, bound) refl
 
 lex_digits_of : (ds t : List ℕ) → 0 < length ds → list_all is_digit ds ≡ true → prefix_len is_digit t ≡ 0
-    → map as_symbol (spelled_from 0 (ds ++ t)) ≡ Digits (unwrap_or (digits_number ds) (NUMBER_BOUND + 1)) ∷ map as_symbol (spelled_from 0 t)
+    → map as_symbol (spelled_from 0 (ds ++ t)) ≡ Digits (unwrap_or (digits_number ds) (NUMBER_BOUND + 1)) ∷ map
+    as_symbol (spelled_from 0 t)
 lex_digits_of [] t some all none = absurd (omega arith)
 lex_digits_of (b ∷ bs) t some all none =
     let digit = and_left (is_digit b) (list_all is_digit bs) all in
@@ -191,7 +199,8 @@ sign_stops s t IsSignText.minus = (refl, refl)
 sign_stops s t IsSignText.times = (refl, refl)
 sign_stops s t IsSignText.semicolon = (refl, refl)
 
-piece_stops : (g : Bool) (s : Symbol) (t : List ℕ) → Writable s → closes g s ≡ true → Stops ((cond g [] (32 ∷ []) ++ symbol_text s) ++ t)
+piece_stops : (g : Bool) (s : Symbol) (t : List ℕ) → Writable s → closes g s ≡ true
+    → Stops ((cond g [] (32 ∷ []) ++ symbol_text s) ++ t)
 piece_stops false s t w closed = (refl, refl)
 piece_stops true (Word x) t w closed = absurd cc
 piece_stops true (Digits n) t w closed = absurd cc
@@ -210,7 +219,9 @@ lex_symbol (Text x) ps w closed ws = lex_text x (line_text ps) w
 lex_symbol (Sign s) ps w closed ws = lex_sign s (line_text ps) w
 lex_symbol Stray ps w closed ws = absurd w
 
-lex_piece : (g : Bool) (s : Symbol) (t : List ℕ) → Lexes s t → map as_symbol (spelled_from 0 ((cond g [] (32 ∷ []) ++ symbol_text s) ++ t)) ≡ s ∷ map as_symbol (spelled_from 0 t)
+lex_piece : (g : Bool) (s : Symbol) (t : List ℕ) → Lexes s t
+    → map as_symbol (spelled_from 0 ((cond g [] (32 ∷ []) ++ symbol_text s) ++ t)) ≡ s ∷ map as_symbol
+    (spelled_from 0 t)
 unfolding spelled_from
 lex_piece true s t lexes = lexes
 lex_piece false s t lexes = lexes
@@ -219,21 +230,24 @@ pub lexed : (ps : List Piece) → AreWritable ps → map as_symbol (spelled_from
 unfolding spelled_from
 lexed [] w = refl
 lexed (p ∷ ps) w =
-    lex_piece p.glued p.symbol (line_text ps) (lex_symbol p.symbol ps w.0 w.1 w.2) ∙ ap (λ ts. p.symbol ∷ ts) (lexed ps w.2)
+    lex_piece p.glued p.symbol (line_text ps) (lex_symbol p.symbol ps w.0 w.1 w.2)
+    ∙ ap (λ ts. p.symbol ∷ ts) (lexed ps w.2)
 
 -- every byte is printed ASCII
 
 abbrev pub is_print : ℕ → Bool
 is_print b = nat_le 32 b && nat_le b 126
 
-all_weaker : (p q : ℕ → Bool) → ((b : ℕ) → p b ≡ true → q b ≡ true) → (xs : List ℕ) → list_all p xs ≡ true → list_all q xs ≡ true
+all_weaker : (p q : ℕ → Bool) → ((b : ℕ) → p b ≡ true → q b ≡ true) → (xs : List ℕ) → list_all p xs ≡ true
+    → list_all q xs ≡ true
 all_weaker p q each [] all = refl
 all_weaker p q each (x ∷ xs) all =
     rw (each x (and_left (p x) (list_all p xs) all)) (all_weaker p q each xs (and_right (p x) (list_all p xs) all))
 
 all_both : (p : ℕ → Bool) (xs ys : List ℕ) → list_all p xs ≡ true → list_all p ys ≡ true → list_all p (xs ++ ys) ≡ true
 all_both p [] ys first second = second
-all_both p (x ∷ xs) ys first second = rw (and_left (p x) (list_all p xs) first) (all_both p xs ys (and_right (p x) (list_all p xs) first) second)
+all_both p (x ∷ xs) ys first second = rw (and_left (p x) (list_all p xs) first)
+    (all_both p xs ys (and_right (p x) (list_all p xs) first) second)
 
 letter_print : (b : ℕ) → is_letter b ≡ true → is_print b ≡ true
 letter_print b e = grind (arith, nat_tests)
@@ -250,7 +264,9 @@ text_print b e = grind (arith, nat_tests)
 word_prints : (x : List ℕ) → is_word x ≡ true → list_all is_print x ≡ true
 word_prints [] word = absurd cc
 word_prints (b ∷ bs) word =
-    rw (letter_print b (and_left (is_letter b) (list_all is_word_byte bs) word)) (all_weaker is_word_byte is_print word_byte_print bs (and_right (is_letter b) (list_all is_word_byte bs) word))
+    rw (letter_print b (and_left (is_letter b) (list_all is_word_byte bs) word))
+    (all_weaker is_word_byte is_print word_byte_print bs
+    (and_right (is_letter b) (list_all is_word_byte bs) word))
 
 sign_prints : (s : List ℕ) → IsSignText s → list_all is_print s ≡ true
 sign_prints s IsSignText.at_most = refl

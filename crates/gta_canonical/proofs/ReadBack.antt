@@ -1,5 +1,6 @@
 -- The canonical text of a well formed specification is that specification, its parts on the lines from the second on.
-use Rattle.std.proofs.Common.{◌≡◌, ℕ, zero, suc, ◌+◌, ◌-◌, ◌<◌, Bool, true, false, not, ◌&&◌, ◌||◌, List, [], ◌∷◌, ◌++◌, length, get_or, refl, ap, ◌∙◌, arith, append_assoc, one-add, length-append}
+use Rattle.std.proofs.Common.{◌≡◌, ℕ, zero, suc, ◌+◌, ◌-◌, ◌<◌, Bool, true, false, not, ◌&&◌, ◌||◌, List, [], ◌∷◌}
+use Rattle.std.proofs.Common.{◌++◌, length, get_or, refl, ap, ◌∙◌, arith, append_assoc, one-add, length-append}
 use Rattle.std.proofs.lemmas.Bool.Decides.{nat_tests}
 use Rattle.std.proofs.Math.Seq.{take-append_seam}
 use Rattle.std.specs.Prelude.{Some, None, Result, Ok, Err, IfOk, nat_lt, ◌==◌, codes, flat_map, slice_index}
@@ -9,9 +10,11 @@ use Rattle.gta_text.specs.declared.token.TokenKind.{TokenKind}
 use Rattle.gta_text.specs.declared.token.TokenKind.TheVariants as kinds
 use Rattle.gta_text.specs.declared.token.Token.{Token}
 use Rattle.gta_text.specs.Tokens.{tokens_from, token_at}
-use Rattle.gta_text.specs.Text.{raw_lines, without_last, content, is_plain, first_bad, is_rows, Numbered, Found, BadByte, line_if, with_lines, lines_from, read_lines}
+use Rattle.gta_text.specs.Text.{raw_lines, without_last, content, is_plain, first_bad, is_rows, Numbered, Found}
+use Rattle.gta_text.specs.Text.{BadByte, line_if, with_lines, lines_from, read_lines}
 use Rattle.gta_spec.specs.Symbols.{Symbol, Word, Digits, Text, Sign, Stray, symbol_of, symbols}
-use Rattle.gta_spec.specs.Parts.{KindTree, Columns, Labels, Measure, Table, Times, Generate, Test, Aggregate, PartTree, SpecTree}
+use Rattle.gta_spec.specs.Parts.{KindTree, Columns, Labels, Measure, Table, Times, Generate, Test, Aggregate}
+use Rattle.gta_spec.specs.Parts.{PartTree, SpecTree}
 use Rattle.gta_spec.specs.Grammar.{IsPart}
 use Rattle.gta_spec.specs.SpecText.{is_version, is_past, has_past, AreParts, none, some, SpecText}
 use Rattle.gta_spec.specs.WellFormed.{FitsKind, FitParts, IsWellFormed}
@@ -45,7 +48,8 @@ other_prints b bs all = right (is_print b) (list_all is_print bs) all
     right true y e = e
     right false y e = absurd cc
 
-raw_line : (xs more : List ℕ) → list_all is_print xs ≡ true → raw_lines (xs ++ 10 ∷ more) ≡ (xs ++ 10 ∷ []) ∷ raw_lines more
+raw_line : (xs more : List ℕ) → list_all is_print xs ≡ true
+    → raw_lines (xs ++ 10 ∷ more) ≡ (xs ++ 10 ∷ []) ∷ raw_lines more
 unfolding raw_lines
 raw_line [] more all = refl
 raw_line (b ∷ bs) more all =
@@ -78,7 +82,8 @@ no_return [] all = refl
 no_return (x ∷ xs) all =
     let k : length (x ∷ xs) - 1 ≡ length xs = omega arith in
     let last : (slice_index (x ∷ xs) (length xs) == 13) ≡ false =
-    rw (index_as (x ∷ xs) (length xs) (omega arith)) (print_no_return (get_or (x ∷ xs) (length xs) 32) (print_at (x ∷ xs) (length xs) all)) in
+    rw (index_as (x ∷ xs) (length xs) (omega arith))
+    (print_no_return (get_or (x ∷ xs) (length xs) 32) (print_at (x ∷ xs) (length xs) all)) in
     let some : nat_lt 0 (length (x ∷ xs)) ≡ true = grind (arith, nat_tests) in
     rw (some, k, last) refl
 
@@ -87,7 +92,8 @@ content_back xs all = ap (λ (ys : List ℕ). without_last 13 ys) (push_back xs 
 
 all_plain : (xs : List ℕ) → list_all is_print xs ≡ true → prefix_len (λ b. not (not (is_plain b))) xs ≡ length xs
 all_plain [] all = refl
-all_plain (x ∷ xs) all = rw (print_plain x (first_prints x xs all)) (simp one-add (ap (λ n. suc n) (all_plain xs (other_prints x xs all))))
+all_plain (x ∷ xs) all = rw (print_plain x (first_prints x xs all))
+    (simp one-add (ap (λ n. suc n) (all_plain xs (other_prints x xs all))))
 
 none_bad : (xs : List ℕ) → list_all is_print xs ≡ true → first_bad xs ≡ None
 none_bad xs all =
@@ -145,9 +151,11 @@ none_past (p ∷ ps) w = rw (symbol_within p.symbol w.0) (none_past ps w.2)
     symbol_within (Sign s) v = refl
     symbol_within Stray v = refl
 
-past_by_symbols : (source : List ℕ) (tokens : List Token) → has_past source tokens ≡ list_any is_past (symbols source tokens)
+past_by_symbols : (source : List ℕ) (tokens : List Token)
+    → has_past source tokens ≡ list_any is_past (symbols source tokens)
 past_by_symbols source [] = refl
-past_by_symbols source (token ∷ tokens) = ap (λ b. is_past (symbol_of source token) || b) (past_by_symbols source tokens)
+past_by_symbols source (token ∷ tokens) = ap (λ b. is_past (symbol_of source token) || b)
+    (past_by_symbols source tokens)
 
 -- one line of pieces
 
@@ -157,7 +165,8 @@ pub record Placed (source : List ℕ) (place : ℕ) (held back : List ℕ) : Typ
   pub whole : source ≡ front ++ (held ++ 10 ∷ back)
   pub at : place ≡ length front
 
-line_symbols : (source : List ℕ) (place : ℕ) (ps : List Piece) (back : List ℕ) → AreWritable ps → Placed source place (line_text ps) back
+line_symbols : (source : List ℕ) (place : ℕ) (ps : List Piece) (back : List ℕ) → AreWritable ps
+    → Placed source place (line_text ps) back
     → symbols source (tokens_from 0 place (line_text ps)) ≡ syms ps
 line_symbols source place ps back w placed =
     symbols_at (line_text ps) placed.front (10 ∷ back) source place placed.whole placed.at ∙ lexed ps w
@@ -165,15 +174,19 @@ line_symbols source place ps back w placed =
 line_length : (held : List ℕ) → length (held ++ 10 ∷ []) ≡ length held + 1
 line_length held = length-append held (10 ∷ [])
 
-pub at_line : (source : List ℕ) (number place : ℕ) (ps : List Piece) (back : List ℕ) → AreWritable ps → Placed source place (line_text ps) back
+pub at_line : (source : List ℕ) (number place : ℕ) (ps : List Piece) (back : List ℕ) → AreWritable ps
+    → Placed source place (line_text ps) back
     → rows_symbols (syms ps) ≡ false
     → lines_from source number place (raw_lines (line_text ps ++ 10 ∷ back))
-    ≡ with_lines (line_if number (tokens_from 0 place (line_text ps))) (lines_from source (number + 1) (place + (length (line_text ps) + 1)) (raw_lines back))
+    ≡ with_lines (line_if number (tokens_from 0 place (line_text ps)))
+    (lines_from source (number + 1) (place + (length (line_text ps) + 1)) (raw_lines back))
 unfolding lines_from
 at_line source number place ps back w placed other =
     let held = line_text ps in
     let all = prints ps w in
-    let not_rows : is_rows source (tokens_from 0 place held) ≡ false = rows_by_symbols source (tokens_from 0 place held) ∙ ap (λ ts. rows_symbols ts) (line_symbols source place ps back w placed) ∙ other in
+    let not_rows : is_rows source (tokens_from 0 place held) ≡ false = rows_by_symbols source
+    (tokens_from 0 place held) ∙ ap (λ ts. rows_symbols ts) (line_symbols source place ps back w placed)
+    ∙ other in
     rw (raw_line held back all, content_back held all, line_length held, not_rows, none_bad held all) refl
 
 -- the parts, and the line `rows`
@@ -201,9 +214,11 @@ at_rows source number place front whole at =
     let rows : is_rows source (tokens_from 0 place (codes "rows")) ≡ true =
     rows_by_symbols source (tokens_from 0 place (codes "rows")) ∙ ap (λ ts. rows_symbols ts) same in
     let end : place + 5 ≡ length source = omega (arith, at, ap length whole, length-append front rows_text) in
-    rw (raw_line (codes "rows") [] refl, content_back (codes "rows") refl, rows) (ap (λ n. Ok (record { lines = []; rows_at = Some n })) end)
+    rw (raw_line (codes "rows") [] refl, content_back (codes "rows") refl, rows)
+    (ap (λ n. Ok (record { lines = []; rows_at = Some n })) end)
 
-text_splits : (part : PartTree) (parts : List PartTree) → parts_text (part ∷ parts) ≡ line_text (kind_front part.kind []) ++ 10 ∷ parts_text parts
+text_splits : (part : PartTree) (parts : List PartTree)
+    → parts_text (part ∷ parts) ≡ line_text (kind_front part.kind []) ++ 10 ∷ parts_text parts
 text_splits part parts = simp append_assoc
 
 kind_first : (x : KindTree) → (t : Symbol) × ((ts : List Symbol) × (syms (kind_front x []) ≡ t ∷ ts))
@@ -216,19 +231,23 @@ kind_first (Generate s) = (Word (codes "generate"), (_, refl))
 kind_first (Test t) = (Word (codes "test"), (_, refl))
 kind_first (Aggregate g) = (Word (codes "aggregate"), (_, refl))
 
-some_line : (source : List ℕ) (number : ℕ) (tokens : List Token) (t : Symbol) (ts : List Symbol) → symbols source tokens ≡ t ∷ ts
+some_line : (source : List ℕ) (number : ℕ) (tokens : List Token) (t : Symbol) (ts : List Symbol)
+    → symbols source tokens ≡ t ∷ ts
     → line_if number tokens ≡ record { number = number; tokens = tokens } ∷ []
 some_line source number [] t ts e = absurd cc
 some_line source number (token ∷ tokens) t ts e = refl
 
-one_more : (source : List ℕ) (number : ℕ) (part : PartTree) (parts : List PartTree) (tokens : List Token) (read : Result Found BadByte) → FitsKind part.kind
+one_more : (source : List ℕ) (number : ℕ) (part : PartTree) (parts : List PartTree) (tokens : List Token)
+    (read : Result Found BadByte) → FitsKind part.kind
     → symbols source tokens ≡ syms (kind_front part.kind []) → Back source (number + 1) parts read
     → Back source number (part ∷ parts) (with_lines (line_if number tokens) read)
 one_more source number part parts tokens read fits same back =
     let first = kind_first part.kind in
-    let line : line_if number tokens ≡ record { number = number; tokens = tokens } ∷ [] = some_line source number tokens first.0 first.1.0 (same ∙ first.1.1) in
+    let line : line_if number tokens ≡ record { number = number; tokens = tokens } ∷ [] = some_line source number
+    tokens first.0 first.1.0 (same ∙ first.1.1) in
     let derived : IsPart part.kind (symbols source tokens) = rw same (kind_spelled part.kind fits) in
-    let within : has_past source tokens ≡ false = past_by_symbols source tokens ∙ ap (λ ts. list_any is_past ts) same ∙ none_past (kind_front part.kind []) (kind_writable part.kind fits) in
+    let within : has_past source tokens ≡ false = past_by_symbols source tokens ∙ ap (λ ts. list_any is_past ts) same
+    ∙ none_past (kind_front part.kind []) (kind_writable part.kind fits) in
     record {
       lines = record { number = number; tokens = tokens } ∷ back.lines;
       is = rw (back.is, line) refl;
@@ -236,7 +255,8 @@ one_more source number part parts tokens read fits same back =
       numbers = rw within back.numbers;
     }
 
-parts_back : (parts : List PartTree) (source front : List ℕ) (number place low : ℕ) → FitParts low parts → source ≡ front ++ parts_text parts → place ≡ length front
+parts_back : (parts : List PartTree) (source front : List ℕ) (number place low : ℕ) → FitParts low parts
+    → source ≡ front ++ parts_text parts → place ≡ length front
     → Back source number parts (lines_from source number place (raw_lines (parts_text parts)))
 parts_back [] source front number place low fit whole at =
     record { lines = []; is = at_rows source number place front whole at; said = none; numbers = refl }
@@ -246,13 +266,17 @@ parts_back (part ∷ parts) source front number place low fit whole at =
     let writable = kind_writable part.kind fit.1 in
     let placed : Placed source place held (parts_text parts) =
     record { front = front; whole = whole ∙ ap (λ (ts : List ℕ). front ++ ts) (text_splits part parts); at = at } in
-    let later = parts_back parts source (front ++ (held ++ 10 ∷ [])) (number + 1) (place + (length held + 1)) (part.line + 1) fit.2
-    (placed.whole ∙ rest_of front held (parts_text parts)) (omega (arith, at, length-append front (held ++ 10 ∷ []), length-append held (10 ∷ []))) in
+    let later = parts_back parts source (front ++ (held ++ 10 ∷ [])) (number + 1) (place + (length held + 1))
+    (part.line + 1) fit.2
+    (placed.whole ∙ rest_of front held (parts_text parts))
+    (omega (arith, at, length-append front (held ++ 10 ∷ []), length-append held (10 ∷ []))) in
     let read : lines_from source number place (raw_lines (parts_text (part ∷ parts)))
-    ≡ with_lines (line_if number (tokens_from 0 place held)) (lines_from source (number + 1) (place + (length held + 1)) (raw_lines (parts_text parts))) =
+    ≡ with_lines (line_if number (tokens_from 0 place held))
+    (lines_from source (number + 1) (place + (length held + 1)) (raw_lines (parts_text parts))) =
     ap (λ (ts : List ℕ). lines_from source number place (raw_lines ts)) (text_splits part parts)
     ∙ at_line source number place pieces (parts_text parts) writable placed (kind_no_rows part.kind) in
-    let more = one_more source number part parts (tokens_from 0 place held) _ fit.1 (line_symbols source place pieces (parts_text parts) writable placed) later in
+    let more = one_more source number part parts (tokens_from 0 place held) _ fit.1
+    (line_symbols source place pieces (parts_text parts) writable placed) later in
     record { lines = more.lines; is = read ∙ more.is; said = more.said; numbers = more.numbers }
   where
     rest_of : (xs ys zs : List ℕ) → xs ++ (ys ++ 10 ∷ zs) ≡ (xs ++ (ys ++ 10 ∷ [])) ++ zs
@@ -264,7 +288,9 @@ version_no_rows : (source : List ℕ) → is_rows source (tokens_from 0 0 (codes
 unfolding tokens_from token_at
 version_no_rows source = refl
 
-version_line : (number : ℕ) → line_if number (tokens_from 0 0 (codes "gta 1")) ≡ record { number = number; tokens = tokens_from 0 0 (codes "gta 1") } ∷ []
+version_line : (number : ℕ)
+    → line_if number (tokens_from 0 0 (codes "gta 1")) ≡ record
+    { number = number; tokens = tokens_from 0 0 (codes "gta 1") } ∷ []
 unfolding tokens_from token_at
 version_line number = refl
 
@@ -280,7 +306,8 @@ first_line source back =
     rw (raw_line (codes "gta 1") back refl, content_back (codes "gta 1") refl, version_no_rows source) refl
 
 pub canonical_text : (spec : SpecTree) → IsWellFormed spec
-    → SpecText (canonical spec) (record { version = spec.version; parts = renumbered 2 spec.parts }) (length (canonical spec))
+    → SpecText (canonical spec) (record { version = spec.version; parts = renumbered 2 spec.parts })
+    (length (canonical spec))
 unfolding read_lines
 canonical_text spec well =
     let bytes = canonical spec in
@@ -295,7 +322,9 @@ canonical_text spec well =
       numbers = back.numbers;
     }
 
-pub reads_back : {V E : Type 0} (items : V → List ℕ) (spec : SpecTree) → IsWellFormed spec → (result : Result V E) → IfOk result (λ text. items text ≡ canonical spec)
-    → IfOk result (λ text. SpecText (items text) (record { version = spec.version; parts = renumbered 2 spec.parts }) (length (items text)))
+pub reads_back : {V E : Type 0} (items : V → List ℕ) (spec : SpecTree) → IsWellFormed spec → (result : Result V E)
+    → IfOk result (λ text. items text ≡ canonical spec)
+    → IfOk result (λ text. SpecText (items text) (record { version = spec.version; parts = renumbered 2 spec.parts })
+    (length (items text)))
 reads_back items spec well (Ok text) e = rw e (canonical_text spec well)
 reads_back items spec well (Err fault) e = e

@@ -14,11 +14,21 @@ use Rattle.gta_spec.specs.declared.parts.Check.{Check}
 use Rattle.gta_spec.specs.declared.parts.Check.TheVariants.{Compare, Mod}
 use Rattle.gta_spec.specs.declared.parts.GoalPart.{GoalPart}
 use Rattle.gta_spec.specs.declared.parts.GoalPart.TheVariants.{Count, Any, Max, Min, Best}
-use Rattle.gta_spec.specs.Parts.{CaseTree, PickTree, TestTree, Sum, Length, Fold, KindTree, Columns, Labels, Measure, Table, Times, Generate, Test, Aggregate}
+use Rattle.gta_spec.specs.Parts.{CaseTree, PickTree, TestTree, Sum, Length, Fold, KindTree, Columns, Labels, Measure}
+use Rattle.gta_spec.specs.Parts.{Table, Times, Generate, Test, Aggregate}
 use Rattle.gta_spec.specs.Symbols.{Symbol, Word, Digits, Sign}
-use Rattle.gta_spec.specs.Grammar.{IsName, IsNames, IsNum, IsItem, IsCmp, IsAtom, IsAnd, IsIf, IsTerm, IsFirstTerm, IsNextTerm, IsForm, IsCase, IsNextCase, IsCases, IsPick, IsNextPick, IsPicks, IsCheck, IsTest, IsShape, IsEnd, IsGoal, IsLine, IsPart, Many, none, some, Listed, listed, behind}
-use Rattle.gta_spec.specs.WellFormed.{FitsName, FitsDigits, FitsNum, FitsHeaderIf, EachFits, SomeFit, FitsItem, FitsAtom, FitsQuantity, FitsTerm, FitsCase, FitsPick, FitsCheck, FitsTest, FitsGoal, FitsKind}
-use Rattle.gta_canonical.specs.Canonical.{Piece, spaced, glued, fronts, name_front, names_front, num_front, item_front, cmp_text, atom_front, and_front, if_front, quantity_front, first_term_front, next_term_front, form_front, case_front, next_case_front, cases_front, pick_front, next_pick_front, picks_front, check_front, test_front, shape_word, end_word, goal_front, kind_front}
+use Rattle.gta_spec.specs.Grammar.{IsName, IsNames, IsNum, IsItem, IsCmp, IsAtom, IsAnd, IsIf, IsTerm, IsFirstTerm}
+use Rattle.gta_spec.specs.Grammar.{IsNextTerm, IsForm, IsCase, IsNextCase, IsCases, IsPick, IsNextPick, IsPicks}
+use Rattle.gta_spec.specs.Grammar.{IsCheck, IsTest, IsShape, IsEnd, IsGoal, IsLine, IsPart, Many, none, some, Listed}
+use Rattle.gta_spec.specs.Grammar.{listed, behind}
+use Rattle.gta_spec.specs.WellFormed.{FitsName, FitsDigits, FitsNum, FitsHeaderIf, EachFits, SomeFit, FitsItem}
+use Rattle.gta_spec.specs.WellFormed.{FitsAtom, FitsQuantity, FitsTerm, FitsCase, FitsPick, FitsCheck, FitsTest}
+use Rattle.gta_spec.specs.WellFormed.{FitsGoal, FitsKind}
+use Rattle.gta_canonical.specs.Canonical.{Piece, spaced, glued, fronts, name_front, names_front, num_front}
+use Rattle.gta_canonical.specs.Canonical.{item_front, cmp_text, atom_front, and_front, if_front, quantity_front}
+use Rattle.gta_canonical.specs.Canonical.{first_term_front, next_term_front, form_front, case_front, next_case_front}
+use Rattle.gta_canonical.specs.Canonical.{cases_front, pick_front, next_pick_front, picks_front, check_front}
+use Rattle.gta_canonical.specs.Canonical.{test_front, shape_word, end_word, goal_front, kind_front}
 use Rattle.gta_canonical.proofs.Lexed.{IsSignText, Closed, AreWritable}
 
 abbrev pub syms : List Piece → List Symbol
@@ -56,21 +66,26 @@ the_name fits = record { front = refl; free = fits }
 
 -- lists
 
-many_spelled : {A : Type 0} {Fits : A → Type 0} {Is : A → List Symbol → List Symbol → Type 0} (front : A → List Piece → List Piece)
+many_spelled : {A : Type 0} {Fits : A → Type 0} {Is : A → List Symbol → List Symbol → Type 0}
+    (front : A → List Piece → List Piece)
     → ((x : A) (rest : List Piece) → Fits x → Is x (syms (front x rest)) (syms rest))
     → (xs : List A) (rest : List Piece) → EachFits Fits xs → Many Is xs (syms (fronts front xs rest)) (syms rest)
 many_spelled front each [] rest fits = none
-many_spelled front each (x ∷ xs) rest fits = some (each x (fronts front xs rest) fits.0) (many_spelled front each xs rest fits.1)
+many_spelled front each (x ∷ xs) rest fits = some (each x (fronts front xs rest) fits.0)
+    (many_spelled front each xs rest fits.1)
 
 many_flow : {A : Type 0} {Fits : A → Type 0} {front : A → List Piece → List Piece}
     → ((x : A) (rest : List Piece) → Fits x → Flows rest → Flows (front x rest))
     → (xs : List A) (rest : List Piece) → EachFits Fits xs → Flows rest → Flows (fronts front xs rest)
 many_flow each [] rest fits flows = flows
-many_flow {front = front} each (x ∷ xs) rest fits flows = each x (fronts front xs rest) fits.0 (many_flow each xs rest fits.1 flows)
+many_flow {front = front} each (x ∷ xs) rest fits flows = each x (fronts front xs rest) fits.0
+    (many_flow each xs rest fits.1 flows)
 
-names_spelled : (xs : List (List ℕ)) (rest : List Piece) → SomeFit FitsName xs → IsNames xs (syms (names_front xs rest)) (syms rest)
+names_spelled : (xs : List (List ℕ)) (rest : List Piece) → SomeFit FitsName xs
+    → IsNames xs (syms (names_front xs rest)) (syms rest)
 names_spelled [] rest fits = absurd (omega (arith, fits.0))
-names_spelled (x ∷ xs) rest fits = listed (the_name fits.1.0) (many_spelled name_front (λ y r f. the_name f) xs rest fits.1.1)
+names_spelled (x ∷ xs) rest fits = listed (the_name fits.1.0)
+    (many_spelled name_front (λ y r f. the_name f) xs rest fits.1.1)
 
 names_flow : (xs : List (List ℕ)) (rest : List Piece) → SomeFit FitsName xs → Flows rest → Flows (names_front xs rest)
 names_flow xs rest fits flows = many_flow (λ y r f g. a_name y r f g) xs rest fits.1 flows
@@ -94,9 +109,11 @@ item_flows_as x (Some t) rest name header flows =
 item_flows : (x : ColumnItem) (rest : List Piece) → FitsItem x → Flows rest → Flows (item_front x rest)
 item_flows x rest fits flows = item_flows_as x.name x.header rest fits.0 fits.1 flows
 
-items_spelled : (xs : List ColumnItem) (rest : List Piece) → SomeFit FitsItem xs → Listed IsItem IsItem xs (syms (fronts item_front xs rest)) (syms rest)
+items_spelled : (xs : List ColumnItem) (rest : List Piece) → SomeFit FitsItem xs
+    → Listed IsItem IsItem xs (syms (fronts item_front xs rest)) (syms rest)
 items_spelled [] rest fits = absurd (omega (arith, fits.0))
-items_spelled (x ∷ xs) rest fits = listed (item_spelled x (fronts item_front xs rest) fits.1.0) (many_spelled item_front item_spelled xs rest fits.1.1)
+items_spelled (x ∷ xs) rest fits = listed (item_spelled x (fronts item_front xs rest) fits.1.0)
+    (many_spelled item_front item_spelled xs rest fits.1.1)
 
 -- conditions
 
@@ -120,11 +137,13 @@ cmp_sign Equal = IsSignText.equal
 
 atom_spelled : (x : AtomPart) (rest : List Piece) → FitsAtom x → IsAtom x (syms (atom_front x rest)) (syms rest)
 atom_spelled (Label x) rest fits = IsAtom.label refl (the_name fits)
-atom_spelled (Column x c z) rest fits = IsAtom.column (the_name fits.0) (cmp_spelled c (syms (num_front z rest))) (num_spelled z rest)
+atom_spelled (Column x c z) rest fits = IsAtom.column (the_name fits.0) (cmp_spelled c (syms (num_front z rest)))
+    (num_spelled z rest)
 
 atom_flows : (x : AtomPart) (rest : List Piece) → FitsAtom x → Flows rest → Flows (atom_front x rest)
 atom_flows (Label x) rest fits flows = a_word (codes "label") _ refl (a_name x rest fits flows)
-atom_flows (Column x c z) rest fits flows = a_name x _ fits.0 (a_sign (cmp_text c) _ (cmp_sign c) (num_flows z rest fits.1 flows).writable)
+atom_flows (Column x c z) rest fits flows = a_name x _ fits.0
+    (a_sign (cmp_text c) _ (cmp_sign c) (num_flows z rest fits.1 flows).writable)
 
 and_spelled : (x : AtomPart) (rest : List Piece) → FitsAtom x → IsAnd x (syms (and_front x rest)) (syms rest)
 and_spelled x rest fits = behind refl (atom_spelled x rest fits)
@@ -132,14 +151,17 @@ and_spelled x rest fits = behind refl (atom_spelled x rest fits)
 and_flows : (x : AtomPart) (rest : List Piece) → FitsAtom x → Flows rest → Flows (and_front x rest)
 and_flows x rest fits flows = a_word (codes "and") _ refl (atom_flows x rest fits flows)
 
-if_spelled : (xs : List AtomPart) (rest : List Piece) → EachFits FitsAtom xs → IsIf xs (syms (if_front xs rest)) (syms rest)
+if_spelled : (xs : List AtomPart) (rest : List Piece) → EachFits FitsAtom xs
+    → IsIf xs (syms (if_front xs rest)) (syms rest)
 if_spelled [] rest fits = IsIf.always
 if_spelled (x ∷ xs) rest fits =
-    IsIf.given refl (listed (atom_spelled x (fronts and_front xs rest) fits.0) (many_spelled and_front and_spelled xs rest fits.1))
+    IsIf.given refl (listed (atom_spelled x (fronts and_front xs rest) fits.0)
+    (many_spelled and_front and_spelled xs rest fits.1))
 
 if_flows : (xs : List AtomPart) (rest : List Piece) → EachFits FitsAtom xs → Flows rest → Flows (if_front xs rest)
 if_flows [] rest fits flows = flows
-if_flows (x ∷ xs) rest fits flows = a_word (codes "if") _ refl (atom_flows x _ fits.0 (many_flow and_flows xs rest fits.1 flows))
+if_flows (x ∷ xs) rest fits flows = a_word (codes "if") _ refl
+    (atom_flows x _ fits.0 (many_flow and_flows xs rest fits.1 flows))
 
 -- forms
 
@@ -150,54 +172,67 @@ quantity_spelled m g None (Some x) rest fits = IsTerm.column (the_name fits)
 quantity_spelled m g (Some n) None rest fits = IsTerm.constant refl
 quantity_spelled m g (Some n) (Some x) rest fits = IsTerm.multiple refl refl (the_name fits.1)
 
-quantity_writable : (g : Bool) (n : Option ℕ) (x : Option (List ℕ)) (rest : List Piece) → FitsQuantity n x → Flows rest → AreWritable (quantity_front g n x rest)
+quantity_writable : (g : Bool) (n : Option ℕ) (x : Option (List ℕ)) (rest : List Piece) → FitsQuantity n x
+    → Flows rest → AreWritable (quantity_front g n x rest)
 quantity_writable g None None rest fits flows = absurd fits
 quantity_writable g None (Some x) rest fits flows = (word_of x fits, flows.closed, flows.writable)
 quantity_writable g (Some n) None rest fits flows = (fits, flows.closed, flows.writable)
 quantity_writable g (Some n) (Some x) rest fits flows =
     (fits.0, refl, (IsSignText.times, tt, (word_of x fits.1, flows.closed, flows.writable)))
 
-quantity_closed : (n : Option ℕ) (x : Option (List ℕ)) (rest : List Piece) → FitsQuantity n x → Closed (quantity_front false n x rest)
+quantity_closed : (n : Option ℕ) (x : Option (List ℕ)) (rest : List Piece) → FitsQuantity n x
+    → Closed (quantity_front false n x rest)
 quantity_closed None None rest fits = absurd fits
 quantity_closed None (Some x) rest fits = refl
 quantity_closed (Some n) None rest fits = refl
 quantity_closed (Some n) (Some x) rest fits = refl
 
 first_term_spelled_as : (m : Bool) (n : Option ℕ) (x : Option (List ℕ)) (rest : List Piece) → FitsQuantity n x
-    → IsFirstTerm (record { minus = m; number = n; name = x }) (syms (first_term_front (record { minus = m; number = n; name = x }) rest)) (syms rest)
+    → IsFirstTerm (record { minus = m; number = n; name = x })
+    (syms (first_term_front (record { minus = m; number = n; name = x }) rest)) (syms rest)
 first_term_spelled_as false n x rest fits = IsFirstTerm.plain (quantity_spelled false false n x rest fits)
 first_term_spelled_as true n x rest fits = IsFirstTerm.minus refl (quantity_spelled true true n x rest fits)
 
-first_term_spelled : (x : TermPart) (rest : List Piece) → FitsTerm x → IsFirstTerm x (syms (first_term_front x rest)) (syms rest)
+first_term_spelled : (x : TermPart) (rest : List Piece) → FitsTerm x
+    → IsFirstTerm x (syms (first_term_front x rest)) (syms rest)
 first_term_spelled x rest fits = first_term_spelled_as x.minus x.number x.name rest fits
 
-first_term_flows_as : (m : Bool) (n : Option ℕ) (x : Option (List ℕ)) (rest : List Piece) → FitsQuantity n x → Flows rest
+first_term_flows_as : (m : Bool) (n : Option ℕ) (x : Option (List ℕ)) (rest : List Piece) → FitsQuantity n x
+    → Flows rest
     → Flows (first_term_front (record { minus = m; number = n; name = x }) rest)
-first_term_flows_as false n x rest fits flows = record { writable = quantity_writable false n x rest fits flows; closed = quantity_closed n x rest fits }
-first_term_flows_as true n x rest fits flows = a_sign (codes "-") _ IsSignText.minus (quantity_writable true n x rest fits flows)
+first_term_flows_as false n x rest fits flows = record
+    { writable = quantity_writable false n x rest fits flows; closed = quantity_closed n x rest fits }
+first_term_flows_as true n x rest fits flows = a_sign (codes "-") _ IsSignText.minus
+    (quantity_writable true n x rest fits flows)
 
 first_term_flows : (x : TermPart) (rest : List Piece) → FitsTerm x → Flows rest → Flows (first_term_front x rest)
 first_term_flows x rest fits flows = first_term_flows_as x.minus x.number x.name rest fits flows
 
 next_term_spelled_as : (m : Bool) (n : Option ℕ) (x : Option (List ℕ)) (rest : List Piece) → FitsQuantity n x
-    → IsNextTerm (record { minus = m; number = n; name = x }) (syms (next_term_front (record { minus = m; number = n; name = x }) rest)) (syms rest)
+    → IsNextTerm (record { minus = m; number = n; name = x })
+    (syms (next_term_front (record { minus = m; number = n; name = x }) rest)) (syms rest)
 next_term_spelled_as false n x rest fits = IsNextTerm.plus refl (quantity_spelled false false n x rest fits)
 next_term_spelled_as true n x rest fits = IsNextTerm.minus refl (quantity_spelled true false n x rest fits)
 
-next_term_spelled : (x : TermPart) (rest : List Piece) → FitsTerm x → IsNextTerm x (syms (next_term_front x rest)) (syms rest)
+next_term_spelled : (x : TermPart) (rest : List Piece) → FitsTerm x
+    → IsNextTerm x (syms (next_term_front x rest)) (syms rest)
 next_term_spelled x rest fits = next_term_spelled_as x.minus x.number x.name rest fits
 
 next_term_flows_as : (m : Bool) (n : Option ℕ) (x : Option (List ℕ)) (rest : List Piece) → FitsQuantity n x → Flows rest
     → Flows (next_term_front (record { minus = m; number = n; name = x }) rest)
-next_term_flows_as false n x rest fits flows = a_sign (codes "+") _ IsSignText.plus (quantity_writable false n x rest fits flows)
-next_term_flows_as true n x rest fits flows = a_sign (codes "-") _ IsSignText.minus (quantity_writable false n x rest fits flows)
+next_term_flows_as false n x rest fits flows = a_sign (codes "+") _ IsSignText.plus
+    (quantity_writable false n x rest fits flows)
+next_term_flows_as true n x rest fits flows = a_sign (codes "-") _ IsSignText.minus
+    (quantity_writable false n x rest fits flows)
 
 next_term_flows : (x : TermPart) (rest : List Piece) → FitsTerm x → Flows rest → Flows (next_term_front x rest)
 next_term_flows x rest fits flows = next_term_flows_as x.minus x.number x.name rest fits flows
 
-form_spelled : (xs : List TermPart) (rest : List Piece) → SomeFit FitsTerm xs → IsForm xs (syms (form_front xs rest)) (syms rest)
+form_spelled : (xs : List TermPart) (rest : List Piece) → SomeFit FitsTerm xs
+    → IsForm xs (syms (form_front xs rest)) (syms rest)
 form_spelled [] rest fits = absurd (omega (arith, fits.0))
-form_spelled (x ∷ xs) rest fits = listed (first_term_spelled x (fronts next_term_front xs rest) fits.1.0) (many_spelled next_term_front next_term_spelled xs rest fits.1.1)
+form_spelled (x ∷ xs) rest fits = listed (first_term_spelled x (fronts next_term_front xs rest) fits.1.0)
+    (many_spelled next_term_front next_term_spelled xs rest fits.1.1)
 
 form_flows : (xs : List TermPart) (rest : List Piece) → SomeFit FitsTerm xs → Flows rest → Flows (form_front xs rest)
 form_flows [] rest fits flows = flows
@@ -206,20 +241,24 @@ form_flows (x ∷ xs) rest fits flows = first_term_flows x _ fits.1.0 (many_flow
 -- cases and picks
 
 case_spelled : (x : CaseTree) (rest : List Piece) → FitsCase x → IsCase x (syms (case_front x rest)) (syms rest)
-case_spelled x rest fits = IsCase.case (form_spelled x.form (if_front x.cond rest) fits.0) (if_spelled x.cond rest fits.1)
+case_spelled x rest fits = IsCase.case (form_spelled x.form (if_front x.cond rest) fits.0)
+    (if_spelled x.cond rest fits.1)
 
 case_flows : (x : CaseTree) (rest : List Piece) → FitsCase x → Flows rest → Flows (case_front x rest)
 case_flows x rest fits flows = form_flows x.form _ fits.0 (if_flows x.cond rest fits.1 flows)
 
-next_case_spelled : (x : CaseTree) (rest : List Piece) → FitsCase x → IsNextCase x (syms (next_case_front x rest)) (syms rest)
+next_case_spelled : (x : CaseTree) (rest : List Piece) → FitsCase x
+    → IsNextCase x (syms (next_case_front x rest)) (syms rest)
 next_case_spelled x rest fits = behind refl (case_spelled x rest fits)
 
 next_case_flows : (x : CaseTree) (rest : List Piece) → FitsCase x → Flows rest → Flows (next_case_front x rest)
 next_case_flows x rest fits flows = a_sign (codes ";") _ IsSignText.semicolon (case_flows x rest fits flows).writable
 
-cases_spelled : (xs : List CaseTree) (rest : List Piece) → SomeFit FitsCase xs → IsCases xs (syms (cases_front xs rest)) (syms rest)
+cases_spelled : (xs : List CaseTree) (rest : List Piece) → SomeFit FitsCase xs
+    → IsCases xs (syms (cases_front xs rest)) (syms rest)
 cases_spelled [] rest fits = absurd (omega (arith, fits.0))
-cases_spelled (x ∷ xs) rest fits = listed (case_spelled x (fronts next_case_front xs rest) fits.1.0) (many_spelled next_case_front next_case_spelled xs rest fits.1.1)
+cases_spelled (x ∷ xs) rest fits = listed (case_spelled x (fronts next_case_front xs rest) fits.1.0)
+    (many_spelled next_case_front next_case_spelled xs rest fits.1.1)
 
 cases_flow : (xs : List CaseTree) (rest : List Piece) → SomeFit FitsCase xs → Flows rest → Flows (cases_front xs rest)
 cases_flow [] rest fits flows = flows
@@ -231,15 +270,18 @@ pick_spelled x rest fits = IsPick.pick (the_name fits.0) (if_spelled x.cond rest
 pick_flows : (x : PickTree) (rest : List Piece) → FitsPick x → Flows rest → Flows (pick_front x rest)
 pick_flows x rest fits flows = a_name x.element _ fits.0 (if_flows x.cond rest fits.1 flows)
 
-next_pick_spelled : (x : PickTree) (rest : List Piece) → FitsPick x → IsNextPick x (syms (next_pick_front x rest)) (syms rest)
+next_pick_spelled : (x : PickTree) (rest : List Piece) → FitsPick x
+    → IsNextPick x (syms (next_pick_front x rest)) (syms rest)
 next_pick_spelled x rest fits = behind refl (pick_spelled x rest fits)
 
 next_pick_flows : (x : PickTree) (rest : List Piece) → FitsPick x → Flows rest → Flows (next_pick_front x rest)
 next_pick_flows x rest fits flows = a_sign (codes ";") _ IsSignText.semicolon (pick_flows x rest fits flows).writable
 
-picks_spelled : (xs : List PickTree) (rest : List Piece) → SomeFit FitsPick xs → IsPicks xs (syms (picks_front xs rest)) (syms rest)
+picks_spelled : (xs : List PickTree) (rest : List Piece) → SomeFit FitsPick xs
+    → IsPicks xs (syms (picks_front xs rest)) (syms rest)
 picks_spelled [] rest fits = absurd (omega (arith, fits.0))
-picks_spelled (x ∷ xs) rest fits = listed (pick_spelled x (fronts next_pick_front xs rest) fits.1.0) (many_spelled next_pick_front next_pick_spelled xs rest fits.1.1)
+picks_spelled (x ∷ xs) rest fits = listed (pick_spelled x (fronts next_pick_front xs rest) fits.1.0)
+    (many_spelled next_pick_front next_pick_spelled xs rest fits.1.1)
 
 picks_flow : (xs : List PickTree) (rest : List Piece) → SomeFit FitsPick xs → Flows rest → Flows (picks_front xs rest)
 picks_flow [] rest fits flows = flows
@@ -254,19 +296,24 @@ check_spelled (Mod m r) rest fits = IsCheck.modulo refl refl refl refl
 check_flows : (x : Check) (rest : List Piece) → FitsCheck x → Flows rest → Flows (check_front x rest)
 check_flows (Compare c z) rest fits flows = a_sign (cmp_text c) _ (cmp_sign c) (num_flows z rest fits flows).writable
 check_flows (Mod m r) rest fits flows =
-    a_word (codes "mod") _ refl (a_number m _ fits.0 (a_sign (codes "=") _ IsSignText.equal (a_number r rest fits.1 flows).writable))
+    a_word (codes "mod") _ refl
+    (a_number m _ fits.0 (a_sign (codes "=") _ IsSignText.equal (a_number r rest fits.1 flows).writable))
 
 test_spelled : (x : TestTree) → FitsTest x → IsTest x (syms (test_front x [])) []
 test_spelled (Sum x k) fits = IsTest.sum refl (the_name fits.0) (check_spelled k [] fits.1)
 test_spelled (Length k) fits = IsTest.length refl (check_spelled k [] fits)
 test_spelled (Fold t ps es) fits =
-    IsTest.fold refl (the_name fits.0) refl (picks_spelled ps (spaced (Word (codes "accept")) ∷ names_front es []) fits.1) refl (names_spelled es [] fits.2)
+    IsTest.fold refl (the_name fits.0) refl
+    (picks_spelled ps (spaced (Word (codes "accept")) ∷ names_front es []) fits.1) refl
+    (names_spelled es [] fits.2)
 
 test_flows : (x : TestTree) → FitsTest x → Flows (test_front x [])
 test_flows (Sum x k) fits = a_word (codes "sum") _ refl (a_name x _ fits.0 (check_flows k [] fits.1 nothing))
 test_flows (Length k) fits = a_word (codes "length") _ refl (check_flows k [] fits nothing)
 test_flows (Fold t ps es) fits =
-    a_word (codes "fold") _ refl (a_name t _ fits.0 (a_word (codes "by") _ refl (picks_flow ps _ fits.1 (a_word (codes "accept") _ refl (names_flow es [] fits.2 nothing)))))
+    a_word (codes "fold") _ refl
+    (a_name t _ fits.0 (a_word (codes "by") _ refl
+    (picks_flow ps _ fits.1 (a_word (codes "accept") _ refl (names_flow es [] fits.2 nothing)))))
 
 shape_spelled : (s : Shape) → IsShape s (Word (shape_word s) ∷ []) []
 shape_spelled shapes.Sublists = IsShape.sublists refl
@@ -303,7 +350,8 @@ goal_flows Any fits = a_word (codes "any") [] refl nothing
 goal_flows (Max x) fits = a_word (codes "max") _ refl (a_name x [] fits nothing)
 goal_flows (Min x) fits = a_word (codes "min") _ refl (a_name x [] fits nothing)
 goal_flows (Best k greatest x) fits =
-    a_word (codes "best") _ refl (a_number k _ fits.0 (a_word (end_word greatest) _ (end_is_word greatest) (a_name x [] fits.1 nothing)))
+    a_word (codes "best") _ refl
+    (a_number k _ fits.0 (a_word (end_word greatest) _ (end_is_word greatest) (a_name x [] fits.1 nothing)))
 
 -- lines
 
@@ -311,8 +359,10 @@ pub kind_spelled : (x : KindTree) → FitsKind x → IsPart x (syms (kind_front 
 kind_spelled (Columns xs) fits = IsLine.columns refl (items_spelled xs [] fits)
 kind_spelled (Labels xs) fits = IsLine.labels refl (names_spelled xs [] fits)
 kind_spelled (Measure part) fits = IsLine.measure refl (the_name fits.0) refl (cases_spelled part.cases [] fits.1)
-kind_spelled (Table part) fits = IsLine.table refl (the_name fits.0) refl (the_name fits.1) refl (names_spelled part.elements [] fits.2)
-kind_spelled (Times part) fits = IsLine.times refl (the_name fits.0) (the_name fits.1) refl (names_spelled part.products [] fits.2)
+kind_spelled (Table part) fits = IsLine.table refl (the_name fits.0) refl (the_name fits.1) refl
+    (names_spelled part.elements [] fits.2)
+kind_spelled (Times part) fits = IsLine.times refl (the_name fits.0) (the_name fits.1) refl
+    (names_spelled part.products [] fits.2)
 kind_spelled (Generate s) fits = IsLine.generate refl (shape_spelled s)
 kind_spelled (Test t) fits = IsLine.test refl (test_spelled t fits)
 kind_spelled (Aggregate g) fits = IsLine.aggregate refl (goal_spelled g fits)
@@ -325,13 +375,17 @@ pub kind_writable : (x : KindTree) → FitsKind x → AreWritable (kind_front x 
 kind_writable (Columns xs) fits = at_start (codes "columns") _ refl (many_flow item_flows xs [] fits.1 nothing)
 kind_writable (Labels xs) fits = at_start (codes "labels") _ refl (names_flow xs [] fits nothing)
 kind_writable (Measure part) fits =
-    at_start (codes "measure") _ refl (a_name part.name _ fits.0 (a_sign (codes "=") _ IsSignText.equal (cases_flow part.cases [] fits.1 nothing).writable))
+    at_start (codes "measure") _ refl
+    (a_name part.name _ fits.0
+    (a_sign (codes "=") _ IsSignText.equal (cases_flow part.cases [] fits.1 nothing).writable))
 kind_writable (Table part) fits =
     at_start (codes "table") _ refl (a_name part.name _ fits.0 (a_word (codes "unit") _ refl (a_name part.unit _ fits.1
     (a_word (codes "elements") _ refl (names_flow part.elements [] fits.2 nothing)))))
 kind_writable (Times part) fits =
-    at_start (codes "times") _ refl (a_name part.table _ fits.0 (a_name part.element _ fits.1 (a_sign (codes "=") _ IsSignText.equal
+    at_start (codes "times") _ refl
+    (a_name part.table _ fits.0 (a_name part.element _ fits.1 (a_sign (codes "=") _ IsSignText.equal
     (names_flow part.products [] fits.2 nothing).writable)))
-kind_writable (Generate s) fits = at_start (codes "generate") _ refl (a_word (shape_word s) [] (shape_is_word s) nothing)
+kind_writable (Generate s) fits = at_start (codes "generate") _ refl
+    (a_word (shape_word s) [] (shape_is_word s) nothing)
 kind_writable (Test t) fits = at_start (codes "test") _ refl (test_flows t fits)
 kind_writable (Aggregate g) fits = at_start (codes "aggregate") _ refl (goal_flows g fits)

@@ -1,4 +1,5 @@
--- The limits that every checked specification keeps: its numbers are declared, and its lists and numbers are not too large.
+-- The limits that every checked specification keeps: its numbers are declared, and its lists and numbers are not too
+-- large.
 use Rattle.std.specs.Prelude.{◌≡◌, ℕ, ◌+◌, ◌<◌, ◌≤◌, ◌↔◌, ℤ, pos, ◌≤ℤ◌, nat_abs, List, length, Option, Some, None, All}
 use Rattle.gta_text.specs.declared.numbers.TheConstants.{NUMBER_BOUND}
 use Rattle.shape_gen.specs.declared.shape.Shape.TheVariants.{Assign}

@@ -27,7 +27,8 @@ IsDrill Show = ⊥
 IsDrill ListKept = ⊥
 IsDrill (Drill seed rows workers leaf) = Unit {0}
 
--- a source or a sink before and after the call: the bytes that it has left or that are gone, where they are told, its count
+-- a source or a sink before and after the call: the bytes that it has left or that are gone, where they are told, its
+-- count
 -- of faults, and that all of it is as it was
 pub record Stream : Type 1 where
   pub old : Option (List ℕ)

@@ -1,6 +1,6 @@
 //! The top call. Its clauses are what the program promises; how a call ends, by its status, is in specs/Endings.antt.
-//! The command of words is in gta_words, and what a command comes to on bytes, its text or its first refusal, in gta_job,
-//! each in its specs/; the lines are in specs/Lines.antt.
+//! The command of words is in gta_words, and what a command comes to on bytes, its text or its first refusal, in
+//! gta_job, each in its specs/; the lines are in specs/Lines.antt.
 
 ghost use Rattle.std.specs.Prelude.{◌≡◌, map, string_bytes, IfSome};
 ghost use Rattle.gta_words.specs.Words.{command_of};

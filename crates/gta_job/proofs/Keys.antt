@@ -28,7 +28,8 @@ some_if : (past : Bool) (keys told : ℕ) → fault_if past keys ≡ Some (TooMa
 some_if true keys told is = let h : Some (TooManyKeys keys) ≡ Some (TooManyKeys told) = is in cc
 some_if false keys told is = absurd (let h : None ≡ Some (TooManyKeys told) = is in cc)
 
-no_other : (past : Bool) (keys test row label : ℕ) (value : ℤ) → fault_if past keys ≡ Some (Negative test row label value) → ⊥
+no_other : (past : Bool) (keys test row label : ℕ) (value : ℤ)
+    → fault_if past keys ≡ Some (Negative test row label value) → ⊥
 no_other true keys test row label value is =
     let h : Some (TooManyKeys keys) ≡ Some (Negative test row label value) = is in cc
 no_other false keys test row label value is =
@@ -44,6 +45,8 @@ module _ (checked : PlainChecked) (rows : PlainRows) (natural : first_negative c
   keys-many keys is = some_if (nat_lt KEY_LIMIT (key_count checked)) (key_count checked) keys
       (sym (value_fault-keys checked rows natural) ∙ is)
 
-  pub no-negative : (test row label : ℕ) (value : ℤ) → value_fault checked rows ≡ Some (Negative test row label value) → ⊥
-  no-negative test row label value is = no_other (nat_lt KEY_LIMIT (key_count checked)) (key_count checked) test row label value
+  pub no-negative : (test row label : ℕ) (value : ℤ)
+      → value_fault checked rows ≡ Some (Negative test row label value) → ⊥
+  no-negative test row label value is = no_other (nat_lt KEY_LIMIT (key_count checked)) (key_count checked) test row
+      label value
       (sym (value_fault-keys checked rows natural) ∙ is)

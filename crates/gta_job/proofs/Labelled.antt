@@ -1,5 +1,6 @@
 -- The marks of the best list have labels that are declared.
-use Rattle.std.proofs.Common.{◌≡◌, ℕ, zero, suc, ◌<◌, Bool, true, false, List, [], ◌∷◌, map, length, All, ℤ, cond, refl, arith}
+use Rattle.std.proofs.Common.{◌≡◌, ℕ, zero, suc, ◌<◌, Bool, true, false, List, [], ◌∷◌, map, length, All, ℤ, cond}
+use Rattle.std.proofs.Common.{refl, arith}
 use Rattle.std.specs.Ordering.{is_gt}
 use Rattle.std.specs.declared.cmp.Ordering.{Ordering}
 use Rattle.std.proofs.lemmas.List.Elements.{All-nil, All-cons, All-filter, All-map, All-take, All-weaker}
@@ -37,7 +38,8 @@ module _ {X : Type 0} (P : X → Type 0) where
   all_ranked : (cmp : X → X → Ordering) (xs : List X) → All P xs → All P (ranked cmp xs)
   all_ranked cmp [] all = All-nil P
   all_ranked cmp (x ∷ xs) all =
-      all_placed cmp x (ranked cmp xs) (all 0 x (omega arith)) (all_ranked cmp xs (λ k d below. all (suc k) d (omega arith)))
+      all_placed cmp x (ranked cmp xs) (all 0 x (omega arith))
+      (all_ranked cmp xs (λ k d below. all (suc k) d (omega arith)))
 
 module _ (checked : PlainChecked) (rows : PlainRows) where
   labelled : (marks : List Mark) → IsInRangeOf checked rows marks → AreLabelled checked.labels marks
@@ -57,7 +59,8 @@ module _ (checked : PlainChecked) (rows : PlainRows) where
   best-labelled k measure greatest =
       let entries = map (answers.entry_of checked rows measure) (kept checked rows) in
       let P : (ℤ × List Mark) → Type 0 = λ e. AreLabelled checked.labels e.1 in
-      All-map (λ (entry : Entry). AreLabelled checked.labels entry.witness) entry_of (best checked rows k greatest measure)
+      All-map (λ (entry : Entry). AreLabelled checked.labels entry.witness) entry_of
+      (best checked rows k greatest measure)
       (All-take P k (ranked (before greatest) entries)
       (all_ranked P (before greatest) entries
       (All-map P (answers.entry_of checked rows measure) (kept checked rows) kept-labelled)))

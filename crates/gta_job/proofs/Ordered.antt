@@ -33,7 +33,8 @@ module _ {S T : Type 0} where
   -- where a step gives a value, what follows decides
   pub then-later : (step : Result S Refusal) (value : S) (next : S → Result T Refusal) (end : JobEnd)
       → step ≡ Ok value → Ends (next value) end → Ends (and_then step next) end
-  then-later step value next end is ends = subst (λ outcome. Ends outcome end) (sym (ap (λ step. and_then step next) is)) ends
+  then-later step value next end is ends = subst (λ outcome. Ends outcome end)
+      (sym (ap (λ step. and_then step next) is)) ends
 
 -- the end of a call below, told as the end of a job
 module _ {T : Type 0} where
@@ -107,7 +108,8 @@ module _ (bytes : List ℕ) (few : length bytes ≤ INPUT_LIMIT) where
 module _ (told : PlainChecked → PlainRows → Result (List ℕ) Refusal) (bytes : List ℕ) where
   abbrev rows_told : ReadTree → Result (List ℕ) Refusal
   rows_told read =
-      and_then (table_rows (resolved_of read.spec) (drop read.rows_at bytes)) (λ rows. told (resolved_of read.spec) rows)
+      and_then (table_rows (resolved_of read.spec) (drop read.rows_at bytes))
+      (λ rows. told (resolved_of read.spec) rows)
 
   -- what is told of a job whose specification and rows have no refusal
   pub of_rows-told : (read : ReadTree) (rows : PlainRows) → specification bytes ≡ Ok read
@@ -124,7 +126,8 @@ module _ (told : PlainChecked → PlainRows → Result (List ℕ) Refusal) (byte
       → Ends (table_rows (resolved_of read.spec) (drop read.rows_at bytes)) end → Ends (of_rows told bytes) end
   of_table-ends read end is_read ends =
       subst (λ outcome. Ends outcome end) (sym (ap (λ step. and_then step rows_told) is_read))
-      (then-ends (table_rows (resolved_of read.spec) (drop read.rows_at bytes)) (λ rows. told (resolved_of read.spec) rows) end ends)
+      (then-ends (table_rows (resolved_of read.spec) (drop read.rows_at bytes))
+      (λ rows. told (resolved_of read.spec) rows) end ends)
 
 -- a result that tells an outcome tells the same outcome
 pub tells-same : {S T : Type 0} (seen : S → T) (a b : Result T Refusal) (result : Result S JobEnd) → a ≡ b

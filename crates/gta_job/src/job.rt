@@ -1,5 +1,5 @@
-//! Answers a whole job, and shows its specification. What a command comes to on bytes, its text or its first refusal, is in
-//! specs/Outcome.antt; the steps that commands share are in steps.rt.
+//! Answers a whole job, and shows its specification. What a command comes to on bytes, its text or its first refusal,
+//! is in specs/Outcome.antt; the steps that commands share are in steps.rt.
 
 ghost use Rattle.std.specs.Prelude.{◌≡◌, ◌≤◌, length};
 ghost use Rattle.gta_words.specs.declared.words.Command.TheVariants.{Run, Show};

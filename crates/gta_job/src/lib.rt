@@ -1,7 +1,7 @@
 //! Whole jobs, from the bytes of an input to the bytes of an answer or the refusal.
-//! specs/Outcome.antt says what a command comes to: its text or its first refusal. What that rests on is in specs/Ends.antt
-//! (faults told as refusals), specs/Sizes.antt (how large a job is) and specs/Answers.antt (the answer by its
-//! aggregate).
+//! specs/Outcome.antt says what a command comes to: its text or its first refusal. What that rests on is in
+//! specs/Ends.antt (faults told as refusals), specs/Sizes.antt (how large a job is) and specs/Answers.antt (the
+//! answer by its aggregate).
 #![tactic(auto)]
 
 mod drilling;

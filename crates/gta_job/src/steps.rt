@@ -24,7 +24,8 @@ use report_text::Refusal;
 use std::alloc::{AllocError, Global};
 use test_homs::{Negative, first_negative};
 
-/// The specification that the bytes hold, as it is read and as it is resolved, or the refusal of too many bytes or of their text.
+/// The specification that the bytes hold, as it is read and as it is resolved, or the refusal of too many bytes or of
+/// their text.
 pub(crate) fn checked_spec(alloc: Global, bytes: &[u8]) -> Result<(Read, Checked), JobEnd>
     requires within { length bytes.now ≤ INPUT_BOUND }
     ensures tells { Tells (λ taken. read_tree taken.0) (specification bytes.now) result }

@@ -23,7 +23,8 @@ pub accepted-all : (items : List Test) (sets : List (List Bool)) → length sets
     → AreAccepted (map plain_test items) sets
 accepted-all items sets same each = record {
   count = same ∙ sym (length-map items plain_test);
-  each = λ k plain set below. here items k plain set (omega (arith, length-map items plain_test)) (λ test. each k test set);
+  each = λ k plain set below. here items k plain set (omega (arith, length-map items plain_test))
+      (λ test. each k test set);
 }
   where
     here : (xs : List Test) (k : ℕ) (plain : PlainTest) (set : List Bool) → k < length xs

@@ -1,5 +1,6 @@
 -- The candidate of a number in the list of a shape.
-use Rattle.std.proofs.Common.{Bool, true, false, ◌≡◌, ℕ, zero, suc, ◌+◌, ◌-◌, ◌*◌, ◌/◌, ◌%◌, ◌<◌, ◌≤◌, List, [], ◌∷◌, ◌++◌, map, length, get_or, refl, sym, ap, ◌∙◌, append_assoc, arith}
+use Rattle.std.proofs.Common.{Bool, true, false, ◌≡◌, ℕ, zero, suc, ◌+◌, ◌-◌, ◌*◌, ◌/◌, ◌%◌, ◌<◌, ◌≤◌, List, [], ◌∷◌}
+use Rattle.std.proofs.Common.{◌++◌, map, length, get_or, refl, sym, ap, ◌∙◌, append_assoc, arith}
 use Rattle.std.proofs.Common.{◌⊎◌, take}
 use Rattle.std.specs.List.{filter, flat_map, range_with_len}
 use Rattle.std.proofs.lemmas.List.{take_more}
@@ -8,9 +9,12 @@ use Rattle.shape_gen.specs.declared.shape.Shape.{Shape}
 use Rattle.shape_gen.specs.declared.shape.Shape.TheVariants.{Prefixes, Suffixes}
 use Rattle.shape_gen.proofs.Counts.{candidates_of_ends-length}
 use Rattle.std.specs.Prelude.{nat_lt}
-use Rattle.std.proofs.Math.Nat.{add-div_right, add-mod_right, div-eq_of_lt, lt_of_mul-lt-mul_left, mod-eq_of_lt, mod-lt, mul-div-le, mul-div_cancel_left}
-use Rattle.std.proofs.lemmas.List.{append-nil, get_or_append_left, get_or-append_right, get_or-map, length-append, length-map}
-use Rattle.std.proofs.lemmas.List.FromFn.{get_or-map-range_with_len, get_or-range_with_len, length-map-range_with_len, length-range_with_len}
+use Rattle.std.proofs.Math.Nat.{add-div_right, add-mod_right, div-eq_of_lt, lt_of_mul-lt-mul_left, mod-eq_of_lt}
+use Rattle.std.proofs.Math.Nat.{mod-lt, mul-div-le, mul-div_cancel_left}
+use Rattle.std.proofs.lemmas.List.{append-nil, get_or_append_left, get_or-append_right, get_or-map, length-append}
+use Rattle.std.proofs.lemmas.List.{length-map}
+use Rattle.std.proofs.lemmas.List.FromFn.{get_or-map-range_with_len, get_or-range_with_len, length-map-range_with_len}
+use Rattle.std.proofs.lemmas.List.FromFn.{length-range_with_len}
 use Rattle.shape_gen.specs.declared.mark.Mark.{Mark}
 use Rattle.shape_gen.specs.Candidates.{candidates, mark, run, sublists, assignments, prefixes, segments}
 
@@ -125,7 +129,8 @@ label-of labels row m behind i is below =
     let each = length (assignments labels (row + 1) m) in
     let numbers = range_with_len 0 labels in
     let counted = length-range_with_len 0 labels in
-    let long : behind ≡ labels * each = is ∙ pieces-length row (assignments labels (row + 1) m) numbers ∙ ap (λ k. k * each) counted in
+    let long : behind ≡ labels * each = is ∙ pieces-length row (assignments labels (row + 1) m) numbers
+    ∙ ap (λ k. k * each) counted in
     let inside : i < labels * each = omega (arith, long, below) in
     let some_labels = positive_left labels each i inside in
     let some = positive_right labels each i inside in
@@ -161,13 +166,15 @@ module _ (rows row : ℕ) (within : row < rows) where
   pub sublist-with-at : (i : ℕ) → length (sublists (row + 1) (rows - (row + 1))) ≤ i
       → i < length (sublists row (rows - row))
       → get_or (sublists row (rows - row)) i []
-      ≡ mark row 0 ∷ get_or (sublists (row + 1) (rows - (row + 1))) (i - length (sublists (row + 1) (rows - (row + 1)))) []
+      ≡ mark row 0 ∷ get_or (sublists (row + 1) (rows - (row + 1)))
+      (i - length (sublists (row + 1) (rows - (row + 1)))) []
   sublist-with-at i past below =
       let whole = ap (λ n. length (sublists row n)) count_more in
       ap (λ n. get_or (sublists row n) i []) count_more
       ∙ sublist-with row (rows - (row + 1)) i past (omega (arith, below, whole))
 
-  pub segments-length-at : length (segments row (rows - row)) ≡ (rows - row) + length (segments (row + 1) (rows - (row + 1)))
+  pub segments-length-at : length (segments row (rows - row)) ≡ (rows - row) + length
+      (segments (row + 1) (rows - (row + 1)))
   segments-length-at =
       ap (λ n. length (segments row n)) count_more ∙ segments-length-more row (rows - (row + 1)) ∙ omega arith
 
@@ -185,11 +192,13 @@ module _ (rows row : ℕ) (within : row < rows) where
   pub label-of-at : (labels behind i : ℕ) → behind ≡ length (assignments labels row (rows - row)) → i < behind
       → IsLabelOf labels row (rows - (row + 1)) behind i
   label-of-at labels behind i is below =
-      label-of labels row (rows - (row + 1)) behind i (is ∙ ap (λ n. length (assignments labels row n)) count_more) below
+      label-of labels row (rows - (row + 1)) behind i (is ∙ ap (λ n. length (assignments labels row n)) count_more)
+      below
 
   pub assignment-at : (labels behind i : ℕ) → (here : IsLabelOf labels row (rows - (row + 1)) behind i)
       → get_or (assignments labels row (rows - row)) i []
-      ≡ mark row (i / (behind / labels)) ∷ get_or (assignments labels (row + 1) (rows - (row + 1))) (i % (behind / labels)) []
+      ≡ mark row (i / (behind / labels)) ∷ get_or (assignments labels (row + 1) (rows - (row + 1)))
+      (i % (behind / labels)) []
   assignment-at labels behind i here = ap (λ n. get_or (assignments labels row n) i []) count_more ∙ here.at
 
 -- a mark behind the marks so far
@@ -211,9 +220,11 @@ prefix-at rows number within =
     get_or-map-range_with_len (run 0) 0 (rows + 1) number number [] (omega arith) (omega arith)
 
 pub suffix-at : (rows number : ℕ) → number ≤ rows
-    → get_or (map (λ length. run (rows - length) length) (range_with_len 0 (rows + 1))) number [] ≡ run (rows - number) number
+    → get_or (map (λ length. run (rows - length) length) (range_with_len 0 (rows + 1))) number [] ≡ run
+    (rows - number) number
 suffix-at rows number within =
-    get_or-map-range_with_len (λ length. run (rows - length) length) 0 (rows + 1) number number [] (omega arith) (omega arith)
+    get_or-map-range_with_len (λ length. run (rows - length) length) 0 (rows + 1) number number [] (omega arith)
+    (omega arith)
 
 -- the items that pass a test, one more looked at
 
@@ -222,7 +233,8 @@ pub filter-kept : {A : Type 0} (p : A → Bool) (xs : List A) (i : ℕ) (d : A) 
 filter-kept p xs i d below holds =
     ap (filter p) (take_more xs i d below) ∙ filter-append p (take i xs) (get_or xs i d ∷ []) ∙ rw holds refl
 
-pub filter-dropped : {A : Type 0} (p : A → Bool) (xs : List A) (i : ℕ) (d : A) → i < length xs → p (get_or xs i d) ≡ false
+pub filter-dropped : {A : Type 0} (p : A → Bool) (xs : List A) (i : ℕ) (d : A) → i < length xs
+    → p (get_or xs i d) ≡ false
     → filter p (take (i + 1) xs) ≡ filter p (take i xs)
 filter-dropped p xs i d below fails =
     ap (filter p) (take_more xs i d below) ∙ filter-append p (take i xs) (get_or xs i d ∷ [])

@@ -19,7 +19,8 @@ abbrev Between : ℕ → ℕ → ℕ → List Mark → Type 0
 Between lo hi labels [] = Unit {0}
 Between lo hi labels (m ∷ ms) = (lo ≤ m.row) × (m.row < hi) × (m.label < labels) × Between (m.row + 1) hi labels ms
 
-between-wider : (wide lo hi labels : ℕ) (ms : List Mark) → wide ≤ lo → Between lo hi labels ms → Between wide hi labels ms
+between-wider : (wide lo hi labels : ℕ) (ms : List Mark) → wide ≤ lo → Between lo hi labels ms
+    → Between wide hi labels ms
 between-wider wide lo hi labels [] low between = tt
 between-wider wide lo hi labels (m ∷ ms) low between = (omega (arith, between.0), between.1, between.2, between.3)
 
@@ -29,7 +30,8 @@ between-each lo hi labels (m ∷ ms) between =
     All-cons (IsMarkInRange hi labels) m ms (record { row = between.1; label = between.2 })
     (between-each (m.row + 1) hi labels ms between.3)
 
-between-ascends : (lo hi labels : ℕ) (ms : List Mark) → Between lo hi labels ms → IsStrictlyIncreasing (map (λ m. m.row) ms)
+between-ascends : (lo hi labels : ℕ) (ms : List Mark) → Between lo hi labels ms
+    → IsStrictlyIncreasing (map (λ m. m.row) ms)
 between-ascends lo hi labels [] between k in_list = absurd (omega arith)
 between-ascends lo hi labels (m ∷ []) between k in_list = absurd (omega arith)
 between-ascends lo hi labels (m ∷ (n ∷ ms)) between zero in_list = omega (arith, between.3.0)
@@ -118,7 +120,8 @@ module _ (hi labels : ℕ) (some : 0 < labels) where
   candidates-between Segments =
       All-cons (From 0) [] (segments 0 hi) tt (segments-between 0 hi (omega arith))
 
-pub generated-IsInRangeOf : (checked : PlainChecked) (rows : PlainRows) → All (IsInRangeOf checked rows) (generated checked rows)
+pub generated-IsInRangeOf : (checked : PlainChecked) (rows : PlainRows)
+    → All (IsInRangeOf checked rows) (generated checked rows)
 generated-IsInRangeOf checked rows =
     let labels = label_count checked in
     All-weaker (Between 0 rows.count labels) (IsInRangeOf checked rows)

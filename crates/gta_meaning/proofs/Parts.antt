@@ -18,7 +18,8 @@ module _ {A B : Type 0} (f : A → B) (items : List A) (plains : List B) (same :
       subst P (sym (item-at i x (f x) below is)) (all i (f x) in_plains)
 
 pub case-within : (columns labels : ℕ) (cases items : List Case) (i : ℕ) (case : Case)
-    → items ≡ cases → i < length items → case ≡ get_or items i case → All (IsCaseWithin columns labels) (map plain_case cases)
+    → items ≡ cases → i < length items → case ≡ get_or items i case
+    → All (IsCaseWithin columns labels) (map plain_case cases)
     → IsCaseWithin columns labels (plain_case case)
 case-within columns labels cases items i case same below is all =
     item-within plain_case items (map plain_case cases) (ap (map plain_case) same)

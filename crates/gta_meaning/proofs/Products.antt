@@ -1,5 +1,6 @@
 -- Picked elements, and the product of one mark more.
-use Rattle.std.proofs.Common.{◌≡◌, ℕ, suc, ◌+◌, ◌<◌, Bool, true, false, List, [], ◌∷◌, take, length, get_or, All, refl, sym, subst, arith}
+use Rattle.std.proofs.Common.{◌≡◌, ℕ, suc, ◌+◌, ◌<◌, Bool, true, false, List, [], ◌∷◌, take, length, get_or, All}
+use Rattle.std.proofs.Common.{refl, sym, subst, arith}
 use Rattle.std.proofs.lemmas.List.Sums.{fold_more}
 use Rattle.monoid_kit.specs.Items.{AllElements}
 use Rattle.monoid_kit.specs.Product.{product_by}
@@ -45,7 +46,8 @@ module _ (rows : PlainRows) (columns labels : ℕ) (table : PlainTable) (lawful 
       subst (λ a. a < table.size) (sym (folded-product_by marks))
       (product_by-is_element lawful.monoid element marks (elements marks))
 
-pub folded-more : (rows : PlainRows) (table : PlainTable) (picks : List PlainPick) (marks : List Mark) (i : ℕ) (d : Mark)
+pub folded-more : (rows : PlainRows) (table : PlainTable) (picks : List PlainPick) (marks : List Mark) (i : ℕ)
+    (d : Mark)
     → i < length marks
     → folded rows table picks (take (i + 1) marks)
     ≡ table_mul table (folded rows table picks (take i marks))

@@ -12,8 +12,11 @@ use Rattle.gta_spec.specs.declared.parts.Cmp.{Cmp}
 use Rattle.gta_spec.specs.declared.parts.GoalPart.{GoalPart}
 use Rattle.gta_spec.specs.Symbols.{Symbol, Word, Digits, Text, Sign, Stray}
 use Rattle.gta_spec.specs.Parts.{CaseTree, PickTree, TestTree, KindTree}
-use Rattle.gta_spec.specs.Grammar.{IsDigits, IsText, IsName, IsNames, IsNum, IsItem, IsCmp, IsAtom, IsAnd, IsIf, IsTerm, IsFirstTerm, IsNextTerm, IsCase, IsNextCase, IsPick, IsNextPick, IsCheck, IsTest, IsEnd, IsGoal, IsLine, Many, none, some, Listed, listed, behind}
-use Rattle.gta_spec.specs.WellFormed.{FitsName, FitsNum, EachFits, SomeFit, FitsItem, FitsAtom, FitsTerm, FitsCase, FitsPick, FitsCheck, FitsTest, FitsGoal, FitsKind}
+use Rattle.gta_spec.specs.Grammar.{IsDigits, IsText, IsName, IsNames, IsNum, IsItem, IsCmp, IsAtom, IsAnd, IsIf}
+use Rattle.gta_spec.specs.Grammar.{IsTerm, IsFirstTerm, IsNextTerm, IsCase, IsNextCase, IsPick, IsNextPick, IsCheck}
+use Rattle.gta_spec.specs.Grammar.{IsTest, IsEnd, IsGoal, IsLine, Many, none, some, Listed, listed, behind}
+use Rattle.gta_spec.specs.WellFormed.{FitsName, FitsNum, EachFits, SomeFit, FitsItem, FitsAtom, FitsTerm, FitsCase}
+use Rattle.gta_spec.specs.WellFormed.{FitsPick, FitsCheck, FitsTest, FitsGoal, FitsKind}
 
 abbrev pub GoodSymbol : Symbol → Type 0
 GoodSymbol (Word x) = Unit {0}
@@ -54,7 +57,8 @@ many_fits fits (some {x = x} {ts = ts} {a = a} d ms) good =
     let others = many_fits fits ms first.1 in
     ((first.0, others.0), others.1)
 
-listed_fits : {A : Type 0} {Fits : A → Type 0} {First Next : A → List Symbol → List Symbol → Type 0} → Fitting Fits First → Fitting Fits Next
+listed_fits : {A : Type 0} {Fits : A → Type 0} {First Next : A → List Symbol → List Symbol → Type 0}
+    → Fitting Fits First → Fitting Fits Next
     → {xs : List A} {ts rest : List Symbol} → Listed First Next xs ts rest → Good ts → SomeFit Fits xs × Good rest
 listed_fits fits nexts (listed {x = x} {ts = ts} {a = a} d ms) good =
     let first = fits x ts a d good in
@@ -64,12 +68,14 @@ listed_fits fits nexts (listed {x = x} {ts = ts} {a = a} d ms) good =
 name_fits : {x : List ℕ} {ts rest : List Symbol} → IsName x ts rest → Good ts → FitsName x × Good rest
 name_fits n good = (n.free, after n.front good)
 
-names_fit : {xs : List (List ℕ)} {ts rest : List Symbol} → IsNames xs ts rest → Good ts → SomeFit FitsName xs × Good rest
+names_fit : {xs : List (List ℕ)} {ts rest : List Symbol} → IsNames xs ts rest → Good ts
+    → SomeFit FitsName xs × Good rest
 names_fit d good = listed_fits (λ x ts a n g. name_fits n g) (λ x ts a n g. name_fits n g) d good
 
 item_fits : {x : ColumnItem} {ts rest : List Symbol} → IsItem x ts rest → Good ts → FitsItem x × Good rest
 item_fits (IsItem.bare n) good = ((n.free, tt), after n.front good)
-item_fits (IsItem.headed n s t) good = ((n.free, text_good t (after s (after n.front good))), after t (after s (after n.front good)))
+item_fits (IsItem.headed n s t) good =
+    ((n.free, text_good t (after s (after n.front good))), after t (after s (after n.front good)))
 
 abs_neg : (n : ℕ) → nat_abs (neg_ℤ (pos n)) ≡ n
 abs_neg zero = refl
@@ -129,14 +135,18 @@ next_pick_fits (behind s d) good = pick_fits d (after s good)
 
 check_fits : {x : Check} {ts rest : List Symbol} → IsCheck x ts rest → Good ts → FitsCheck x × Good rest
 check_fits (IsCheck.compare c z) good = num_fits z (cmp_fits c good)
-check_fits (IsCheck.modulo w d s e) good =
-    ((digits_good d (after w good), digits_good e (after s (after d (after w good)))), after e (after s (after d (after w good))))
+check_fits (IsCheck.modulo w d s e) good = (
+  (digits_good d (after w good), digits_good e (after s (after d (after w good)))),
+  after e
+      (after s (after d (after w good))),
+)
 
 test_fits : {x : TestTree} {ts rest : List Symbol} → IsTest x ts rest → Good ts → FitsTest x
 test_fits (IsTest.sum w n k) good = (n.free, (check_fits k (after n.front (after w good))).0)
 test_fits (IsTest.length w k) good = (check_fits k (after w good)).0
 test_fits (IsTest.fold w n v p u e) good =
-    let picks = listed_fits (λ x ts a d g. pick_fits d g) (λ x ts a d g. next_pick_fits d g) p (after v (after n.front (after w good))) in
+    let picks = listed_fits (λ x ts a d g. pick_fits d g) (λ x ts a d g. next_pick_fits d g) p
+    (after v (after n.front (after w good))) in
     (n.free, picks.0, (names_fit e (after u picks.1)).0)
 
 end_fits : {x : Bool} {ts rest : List Symbol} → IsEnd x ts rest → Good ts → Good rest
@@ -151,10 +161,14 @@ goal_fits (IsGoal.min w n) good = n.free
 goal_fits (IsGoal.best w d e n) good = (digits_good d (after w good), n.free)
 
 pub line_fits : {x : KindTree} {ts rest : List Symbol} → IsLine x ts rest → Good ts → FitsKind x
-line_fits (IsLine.columns w d) good = (listed_fits (λ x ts a i g. item_fits i g) (λ x ts a i g. item_fits i g) d (after w good)).0
+line_fits (IsLine.columns w d) good =
+    (listed_fits (λ x ts a i g. item_fits i g) (λ x ts a i g. item_fits i g) d (after w good)).0
 line_fits (IsLine.labels w d) good = (names_fit d (after w good)).0
-line_fits (IsLine.measure w n s d) good =
-    (n.free, (listed_fits (λ x ts a k g. case_fits k g) (λ x ts a k g. next_case_fits k g) d (after s (after n.front (after w good)))).0)
+line_fits (IsLine.measure w n s d) good = (
+  n.free,
+  (listed_fits (λ x ts a k g. case_fits k g) (λ x ts a k g. next_case_fits k g) d
+      (after s (after n.front (after w good)))).0,
+)
 line_fits (IsLine.table w n u m v d) good =
     (n.free, m.free, (names_fit d (after v (after m.front (after u (after n.front (after w good)))))).0)
 line_fits (IsLine.times w n m s d) good =

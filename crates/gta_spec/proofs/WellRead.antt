@@ -1,5 +1,6 @@
 -- A specification that a text is, is well formed.
-use Rattle.std.proofs.Common.{◌≡◌, ℕ, zero, suc, ◌+◌, ◌-◌, ◌≤◌, Bool, true, false, cond, ◌&&◌, ◌||◌, List, [], ◌∷◌, ◌++◌, length, take, drop, map, refl, sym, ap, subst, ◌∙◌, arith, one-add, length-drop}
+use Rattle.std.proofs.Common.{◌≡◌, ℕ, zero, suc, ◌+◌, ◌-◌, ◌≤◌, Bool, true, false, cond, ◌&&◌, ◌||◌, List, [], ◌∷◌}
+use Rattle.std.proofs.Common.{◌++◌, length, take, drop, map, refl, sym, ap, subst, ◌∙◌, arith, one-add, length-drop}
 use Rattle.std.proofs.lemmas.Bool.Decides.{nat_tests}
 use Rattle.std.proofs.lemmas.List.{take-take, length-take}
 use Rattle.std.specs.Prelude.{Result, nat_eq, ◌==◌, nat_lt}
@@ -9,7 +10,8 @@ use Rattle.gta_text.specs.declared.token.Token.{Token}
 use Rattle.gta_text.specs.declared.numbers.TheConstants.{NUMBER_BOUND}
 use Rattle.gta_text.specs.Numbers.{is_digit}
 use Rattle.gta_text.specs.Names.{is_letter}
-use Rattle.gta_text.specs.Tokens.{is_blank, is_text_byte, is_sign, may_begin_sign, next_is, quoted_at, token_at, tokens_from}
+use Rattle.gta_text.specs.Tokens.{is_blank, is_text_byte, is_sign, may_begin_sign, next_is, quoted_at, token_at}
+use Rattle.gta_text.specs.Tokens.{tokens_from}
 use Rattle.gta_text.specs.Text.{Numbered, Found, BadByte}
 use Rattle.gta_text.proofs.Slices.{pick, next_there, spelled_from, with_text, slices}
 use Rattle.gta_text.specs.Text.{IsHeld, AreHeld}
@@ -31,7 +33,8 @@ map_twice f g (x ∷ xs) = ap (λ ys. g (f x) ∷ ys) (map_twice f g xs)
 pub symbols_at : (line front back source : List ℕ) (place : ℕ) → source ≡ front ++ (line ++ back) → place ≡ length front
     → symbols source (tokens_from 0 place line) ≡ map as_symbol (spelled_from 0 line)
 symbols_at line front back source place is at =
-    sym (map_twice (with_text source) as_symbol (tokens_from 0 place line)) ∙ ap (λ ps. map as_symbol ps) (slices line front back source 0 place is at)
+    sym (map_twice (with_text source) as_symbol (tokens_from 0 place line))
+    ∙ ap (λ ps. map as_symbol ps) (slices line front back source 0 place is at)
 
 abbrev TextSymbol : Symbol → Type 0
 TextSymbol (Word x) = Unit {0}
@@ -46,7 +49,8 @@ AllTexts (t ∷ ts) = TextSymbol t × AllTexts ts
 
 prefix_all : (p : ℕ → Bool) (bs : List ℕ) → list_all p (take (prefix_len p bs) bs) ≡ true
 prefix_all p [] = refl
-prefix_all p (b ∷ bs) = elim (p b) as (λ t. p b ≡ t → list_all p (take (cond t (1 + prefix_len p bs) 0) (b ∷ bs)) ≡ true)
+prefix_all p (b ∷ bs) = elim (p b) as
+    (λ t. p b ≡ t → list_all p (take (cond t (1 + prefix_len p bs) 0) (b ∷ bs)) ≡ true)
     [ true ↦ (λ e. simp (one-add, e) (prefix_all p bs)) | false ↦ (λ e. refl) ] refl
 
 take_less : (n : ℕ) (bs : List ℕ) → take n (take (n + 1) bs) ≡ take n bs
@@ -68,7 +72,8 @@ GoodToken b bs token = TextSymbol (symbol_as token.0 (b ∷ take token.1 bs))
 quoted_good : (b : ℕ) (bs : List ℕ) → GoodToken b bs (quoted_at bs)
 quoted_good b bs =
     let n = prefix_len is_text_byte bs in
-    pick (GoodToken b bs) (next_is 34 (drop n bs)) (λ e. inside b bs (omega (arith, next_there 34 (drop n bs) e, length-drop n bs))) (λ e. tt)
+    pick (GoodToken b bs) (next_is 34 (drop n bs))
+    (λ e. inside b bs (omega (arith, next_there 34 (drop n bs) e, length-drop n bs))) (λ e. tt)
 
 token_good : (b : ℕ) (bs : List ℕ) → GoodToken b bs (token_at b bs)
 unfolding token_at
@@ -106,23 +111,34 @@ good_symbol (Text x) text off = text
 good_symbol (Sign s) text off = tt
 good_symbol Stray text off = tt
 
-all_good : (source : List ℕ) (tokens : List Token) → AllTexts (symbols source tokens) → has_past source tokens ≡ false → AllGood (symbols source tokens)
+all_good : (source : List ℕ) (tokens : List Token) → AllTexts (symbols source tokens)
+    → has_past source tokens ≡ false → AllGood (symbols source tokens)
 all_good source [] texts off = tt
-all_good source (token ∷ tokens) texts off =
-    (good_symbol (symbol_of source token) texts.0 (or_left _ _ off), all_good source tokens texts.1 (or_right (is_past (symbol_of source token)) _ off))
+all_good source (token ∷ tokens) texts off = (
+  good_symbol (symbol_of source token) texts.0 (or_left _ _ off),
+  all_good source tokens texts.1
+      (or_right (is_past (symbol_of source token)) _ off),
+)
 
-held_good : (source : List ℕ) (line : Numbered) → IsHeld source line → has_past source line.tokens ≡ false → Good (symbols source line.tokens)
+held_good : (source : List ℕ) (line : Numbered) → IsHeld source line → has_past source line.tokens ≡ false
+    → Good (symbols source line.tokens)
 held_good source line held off =
     let e : symbols source line.tokens ≡ map as_symbol (spelled_from 0 held.held) =
-    ap (λ ts. symbols source ts) held.tokens ∙ symbols_at held.held held.front held.back source (length held.front) held.whole refl in
+    ap (λ ts. symbols source ts) held.tokens
+    ∙ symbols_at held.held held.front held.back source (length held.front) held.whole refl in
     let texts : AllTexts (symbols source line.tokens) = rw e (texts_good 0 held.held) in
     record { holds = all_good source line.tokens texts off }
 
-parts_fit : {source : List ℕ} {lines : List Numbered} {parts : List PartTree} → AreParts source lines parts → (low : ℕ) → AreHeld source low lines
+parts_fit : {source : List ℕ} {lines : List Numbered} {parts : List PartTree} → AreParts source lines parts
+    → (low : ℕ) → AreHeld source low lines
     → list_any (λ line. has_past source line.tokens) lines ≡ false → FitParts low parts
 parts_fit none low held off = tt
-parts_fit {source = source} (some {line = line} d ds) low held off =
-    (held.0, line_fits d (held_good source line held.1 (or_left _ _ off)), parts_fit ds (line.number + 1) held.2 (or_right (has_past source line.tokens) _ off))
+parts_fit {source = source} (some {line = line} d ds) low held off = (
+  held.0,
+  line_fits d (held_good source line held.1 (or_left _ _ off)),
+  parts_fit ds (line.number + 1) held.2
+      (or_right (has_past source line.tokens) _ off),
+)
 
 fit_lower : (low number : ℕ) (parts : List PartTree) → low ≤ number → FitParts number parts → FitParts low parts
 fit_lower low number [] le fit = tt
@@ -134,5 +150,6 @@ is_well_formed bytes spec place text =
     let held = subst P text.lines (text_held bytes) in
     record {
       version = text.is_one;
-      parts = fit_lower 0 (text.first.number + 1) spec.parts (omega arith) (parts_fit text.parts (text.first.number + 1) held.2 text.numbers);
+      parts = fit_lower 0 (text.first.number + 1) spec.parts (omega arith)
+          (parts_fit text.parts (text.first.number + 1) held.2 text.numbers);
     }

@@ -14,7 +14,8 @@ use Rattle.gta_spec.specs.declared.parts.Check.{Check}
 use Rattle.gta_spec.specs.declared.parts.Check.TheVariants.{Compare, Mod}
 use Rattle.gta_spec.specs.declared.parts.GoalPart.{GoalPart}
 use Rattle.gta_spec.specs.declared.parts.GoalPart.TheVariants.{Count, Any, Max, Min, Best}
-use Rattle.gta_spec.specs.Parts.{CaseTree, PickTree, TestTree, Sum, Length, Fold, KindTree, Columns, Labels, Measure, Table, Times, Generate, Test, Aggregate}
+use Rattle.gta_spec.specs.Parts.{CaseTree, PickTree, TestTree, Sum, Length, Fold, KindTree, Columns, Labels, Measure}
+use Rattle.gta_spec.specs.Parts.{Table, Times, Generate, Test, Aggregate}
 use Rattle.gta_spec.specs.Symbols.{Symbol, Word, Digits, Text, Sign}
 
 abbrev pub IsWord : List ℕ → List Symbol → List Symbol → Type 0

@@ -12,7 +12,8 @@ use Rattle.gta_spec.specs.declared.parts.Check.{Check}
 use Rattle.gta_spec.specs.declared.parts.Check.TheVariants.{Compare, Mod}
 use Rattle.gta_spec.specs.declared.parts.GoalPart.{GoalPart}
 use Rattle.gta_spec.specs.declared.parts.GoalPart.TheVariants.{Count, Any, Max, Min, Best}
-use Rattle.gta_spec.specs.Parts.{CaseTree, PickTree, TestTree, Sum, Length, Fold, KindTree, Columns, Labels, Measure, Table, Times, Generate, Test, Aggregate, PartTree, SpecTree}
+use Rattle.gta_spec.specs.Parts.{CaseTree, PickTree, TestTree, Sum, Length, Fold, KindTree, Columns, Labels, Measure}
+use Rattle.gta_spec.specs.Parts.{Table, Times, Generate, Test, Aggregate, PartTree, SpecTree}
 
 abbrev pub FitsName : List ℕ → Type 0
 FitsName x = is_name_text x ≡ true

@@ -6,13 +6,16 @@ use Rattle.gta_spec.specs.Grammar.{Many, none, some, Listed, listed}
 use Rattle.gta_syntax.specs.Rules.{many, list_at}
 
 -- items that are read one after the other: `Ends` says what may follow one
-pub record IsReadable {A : Type 0} (Is : A → List Symbol → List Symbol → Type 0) (read : List Symbol → Option (A × List Symbol)) (begins : List Symbol → Bool) (Ends : List Symbol → Type 0) : Type 0 where
+pub record IsReadable {A : Type 0} (Is : A → List Symbol → List Symbol → Type 0)
+    (read : List Symbol → Option (A × List Symbol)) (begins : List Symbol → Bool) (Ends : List Symbol → Type 0) :
+    Type 0 where
   pub again : (x : A) (ts a : List Symbol) → Is x ts a → Ends a → read ts ≡ Some (x, a)
   pub begun : (x : A) (ts a : List Symbol) → Is x ts a → begins ts ≡ true
   pub goes_on : (x : A) (ts a : List Symbol) → Is x ts a → Ends ts
   pub shorter : (x : A) (ts a : List Symbol) → Is x ts a → length a < length ts
 
-module _ {A : Type 0} {Is : A → List Symbol → List Symbol → Type 0} {read : List Symbol → Option (A × List Symbol)} {begins : List Symbol → Bool} {Ends : List Symbol → Type 0}
+module _ {A : Type 0} {Is : A → List Symbol → List Symbol → Type 0} {read : List Symbol → Option (A × List Symbol)}
+    {begins : List Symbol → Bool} {Ends : List Symbol → Type 0}
     (items : IsReadable Is read begins Ends) where
   pub ends_first : {xs : List A} {ts rest : List Symbol} → Many Is xs ts rest → Ends rest → Ends ts
   ends_first none last = last
@@ -22,14 +25,20 @@ module _ {A : Type 0} {Is : A → List Symbol → List Symbol → Type 0} {read 
   many_within none = omega arith
   many_within (some {x = x} {ts = ts} {a = a} d ms) = omega (arith, items.shorter x ts a d, many_within ms)
 
-  pub many_again : (n : ℕ) {xs : List A} {ts rest : List Symbol} → Many Is xs ts rest → begins rest ≡ false → Ends rest → length ts ≤ n
+  pub many_again : (n : ℕ) {xs : List A} {ts rest : List Symbol} → Many Is xs ts rest → begins rest ≡ false
+      → Ends rest → length ts ≤ n
       → many begins read n ts ≡ Some (xs, rest)
   unfolding many
   many_again zero none off last le = refl
   many_again (suc n) none off last le = rw off refl
   many_again zero (some {x = x} {ts = ts} {a = a} d ms) off last le = absurd (omega (arith, items.shorter x ts a d))
   many_again (suc n) (some {x = x} {ts = ts} {a = a} d ms) off last le =
-      rw (items.begun x ts a d, items.again x ts a d (ends_first ms last), many_again n ms off last (omega (arith, items.shorter x ts a d))) refl
+      rw (
+        items.begun x ts a d,
+        items.again x ts a d (ends_first ms last),
+        many_again n ms off last
+            (omega (arith, items.shorter x ts a d)),
+      ) refl
 
   pub list_again : {First : A → List Symbol → List Symbol → Type 0} {first : List Symbol → Option (A × List Symbol)}
       → ((x : A) (ts a : List Symbol) → First x ts a → Ends a → first ts ≡ Some (x, a))

@@ -13,8 +13,16 @@ use Rattle.gta_spec.specs.declared.parts.Check.{Check}
 use Rattle.gta_spec.specs.declared.parts.GoalPart.{GoalPart}
 use Rattle.gta_spec.specs.Symbols.{Symbol}
 use Rattle.gta_spec.specs.Parts.{CaseTree, PickTree, TestTree, KindTree}
-use Rattle.gta_spec.specs.Grammar.{IsWord, IsSign, IsDigits, IsText, IsName, IsNames, IsNum, IsItem, IsCmp, IsAtom, IsAnd, IsCond, IsIf, IsTerm, IsFirstTerm, IsNextTerm, IsForm, IsCase, IsNextCase, IsCases, IsPick, IsNextPick, IsPicks, IsCheck, IsTest, IsShape, IsEnd, IsGoal, IsLine, IsPart, Listed, behind}
-use Rattle.gta_syntax.specs.Rules.{word_at, sign_at, digits_at, text_at, name_at, names_at, num_at, item_at, cmp_at, atom_at, and_at, cond_at, if_at, term_at, first_term_at, next_term_at, form_at, case_at, next_case_at, cases_at, pick_at, next_pick_at, picks_at, check_at, fold_at, test_at, shape_at, end_at, best_at, goal_at, measure_at, table_at, times_at, line_at, part_at, begins_name, begins_word, begins_sign, begins_next_term, list_at}
+use Rattle.gta_spec.specs.Grammar.{IsWord, IsSign, IsDigits, IsText, IsName, IsNames, IsNum, IsItem, IsCmp, IsAtom}
+use Rattle.gta_spec.specs.Grammar.{IsAnd, IsCond, IsIf, IsTerm, IsFirstTerm, IsNextTerm, IsForm, IsCase, IsNextCase}
+use Rattle.gta_spec.specs.Grammar.{IsCases, IsPick, IsNextPick, IsPicks, IsCheck, IsTest, IsShape, IsEnd, IsGoal}
+use Rattle.gta_spec.specs.Grammar.{IsLine, IsPart, Listed, behind}
+use Rattle.gta_syntax.specs.Rules.{word_at, sign_at, digits_at, text_at, name_at, names_at, num_at, item_at, cmp_at}
+use Rattle.gta_syntax.specs.Rules.{atom_at, and_at, cond_at, if_at, term_at, first_term_at, next_term_at, form_at}
+use Rattle.gta_syntax.specs.Rules.{case_at, next_case_at, cases_at, pick_at, next_pick_at, picks_at, check_at}
+use Rattle.gta_syntax.specs.Rules.{fold_at, test_at, shape_at, end_at, best_at, goal_at, measure_at, table_at}
+use Rattle.gta_syntax.specs.Rules.{times_at, line_at, part_at, begins_name, begins_word, begins_sign}
+use Rattle.gta_syntax.specs.Rules.{begins_next_term, list_at}
 use Rattle.gta_syntax.proofs.Again.{IsReadable, list_again, list_within}
 
 same : (xs : List ℕ) → bytes_eq xs xs ≡ true
@@ -42,11 +50,13 @@ name_again : {x : List ℕ} {ts rest : List Symbol} → IsName x ts rest → nam
 unfolding name_at
 name_again n = rw (n.front, n.free) refl
 
-no_other_word : (w : List ℕ) {v : List ℕ} {ts rest : List Symbol} → IsWord v ts rest → bytes_eq v w ≡ false → word_at w ts ≡ None
+no_other_word : (w : List ℕ) {v : List ℕ} {ts rest : List Symbol} → IsWord v ts rest → bytes_eq v w ≡ false
+    → word_at w ts ≡ None
 unfolding word_at
 no_other_word w e off = rw (e, off) refl
 
-no_other_sign : (s : List ℕ) {v : List ℕ} {ts rest : List Symbol} → IsSign v ts rest → bytes_eq v s ≡ false → sign_at s ts ≡ None
+no_other_sign : (s : List ℕ) {v : List ℕ} {ts rest : List Symbol} → IsSign v ts rest → bytes_eq v s ≡ false
+    → sign_at s ts ≡ None
 unfolding sign_at
 no_other_sign s e off = rw (e, off) refl
 
@@ -74,10 +84,12 @@ differ x w free taken = elim (bytes_eq x w) as (λ b. bytes_eq x w ≡ b → b �
     [ true ↦ (λ e. absurd (clash ((bytes_eq-Decides x w).0 e))) | false ↦ (λ e. refl) ] refl
   where
     clash : x ≡ w → ⊥
-    clash e = let other : is_name_text w ≡ true = rw (sym e) free in let both : true ≡ false = sym other ∙ taken in absurd cc
+    clash e = let other : is_name_text w ≡ true = rw (sym e) free in let both : true ≡ false = sym other
+        ∙ taken in absurd cc
 
 -- a reserved word is no name
-no_word_at_name : (w : List ℕ) {x : List ℕ} {ts rest : List Symbol} → IsName x ts rest → is_name_text w ≡ false → word_at w ts ≡ None
+no_word_at_name : (w : List ℕ) {x : List ℕ} {ts rest : List Symbol} → IsName x ts rest → is_name_text w ≡ false
+    → word_at w ts ≡ None
 no_word_at_name w {x = x} n taken = no_other_word w n.front (differ x w n.free taken)
 
 -- names
@@ -93,12 +105,14 @@ names_readable = record {
   shorter = λ x ts a n. name_shorter n;
 }
 
-names_again : {xs : List (List ℕ)} {ts rest : List Symbol} → IsNames xs ts rest → begins_name rest ≡ false → names_at ts ≡ Some (xs, rest)
+names_again : {xs : List (List ℕ)} {ts rest : List Symbol} → IsNames xs ts rest → begins_name rest ≡ false
+    → names_at ts ≡ Some (xs, rest)
 names_again ns off = list_again names_readable (λ x ts a n last. name_again n) ns off tt
 
 -- columns
 
-item_again : {x : ColumnItem} {ts rest : List Symbol} → IsItem x ts rest → sign_at (codes "=") rest ≡ None → item_at ts ≡ Some (x, rest)
+item_again : {x : ColumnItem} {ts rest : List Symbol} → IsItem x ts rest → sign_at (codes "=") rest ≡ None
+    → item_at ts ≡ Some (x, rest)
 unfolding item_at
 item_again (IsItem.bare n) off = rw (name_again n, off) refl
 item_again (IsItem.headed n s t) off = rw (name_again n, sign_again s, text_again t) refl
@@ -123,7 +137,8 @@ items_readable = record {
   shorter = λ x ts a d. item_shorter d;
 }
 
-items_again : {xs : List ColumnItem} {ts rest : List Symbol} → Listed IsItem IsItem xs ts rest → begins_name rest ≡ false → sign_at (codes "=") rest ≡ None
+items_again : {xs : List ColumnItem} {ts rest : List Symbol} → Listed IsItem IsItem xs ts rest
+    → begins_name rest ≡ false → sign_at (codes "=") rest ≡ None
     → list_at item_at begins_name item_at ts ≡ Some (xs, rest)
 items_again ds off last = list_again items_readable (λ x ts a d last. item_again d last) ds off last
 
@@ -157,7 +172,8 @@ no_word_at_cmp w (IsCmp.equal s) = no_word_at_sign w s
 atom_again : {x : AtomPart} {ts rest : List Symbol} → IsAtom x ts rest → atom_at ts ≡ Some (x, rest)
 unfolding atom_at is_reserved
 atom_again (IsAtom.label w n) = rw (word_again w, name_again n) refl
-atom_again (IsAtom.column n c z) = rw (no_word_at_name (codes "label") n refl, name_again n, cmp_again c, num_again z) refl
+atom_again (IsAtom.column n c z) = rw
+    (no_word_at_name (codes "label") n refl, name_again n, cmp_again c, num_again z) refl
 
 atom_within : {x : AtomPart} {ts rest : List Symbol} → IsAtom x ts rest → length rest ≤ length ts
 atom_within (IsAtom.label w n) = omega (arith, ap length w, name_shorter n)
@@ -186,7 +202,8 @@ record EndsIf (ts : List Symbol) : Type 0 where
   no_if : word_at (codes "if") ts ≡ None
   no_and : word_at (codes "and") ts ≡ None
 
-cond_again : {xs : List AtomPart} {ts rest : List Symbol} → IsCond xs ts rest → word_at (codes "and") rest ≡ None → cond_at ts ≡ Some (xs, rest)
+cond_again : {xs : List AtomPart} {ts rest : List Symbol} → IsCond xs ts rest → word_at (codes "and") rest ≡ None
+    → cond_at ts ≡ Some (xs, rest)
 cond_again ds off = list_again ands_readable (λ x ts a d last. atom_again d) ds (rw off refl) tt
 
 if_again : {xs : List AtomPart} {ts rest : List Symbol} → IsIf xs ts rest → EndsIf rest → if_at ts ≡ Some (xs, rest)
@@ -198,19 +215,22 @@ if_within : {xs : List AtomPart} {ts rest : List Symbol} → IsIf xs ts rest →
 if_within IsIf.always = omega arith
 if_within (IsIf.given w c) = omega (arith, ap length w, list_within ands_readable (λ x ts a d. atom_within d) c)
 
-no_sign_at_if : (s : List ℕ) {xs : List AtomPart} {ts rest : List Symbol} → IsIf xs ts rest → sign_at s rest ≡ None → sign_at s ts ≡ None
+no_sign_at_if : (s : List ℕ) {xs : List AtomPart} {ts rest : List Symbol} → IsIf xs ts rest → sign_at s rest ≡ None
+    → sign_at s ts ≡ None
 no_sign_at_if s IsIf.always off = off
 no_sign_at_if s (IsIf.given w c) off = no_sign_at_word s w
 
 -- forms
 
-term_again : {m : Bool} {x : TermPart} {ts rest : List Symbol} → IsTerm m x ts rest → sign_at (codes "*") rest ≡ None → term_at m ts ≡ Some (x, rest)
+term_again : {m : Bool} {x : TermPart} {ts rest : List Symbol} → IsTerm m x ts rest → sign_at (codes "*") rest ≡ None
+    → term_at m ts ≡ Some (x, rest)
 unfolding term_at
 term_again (IsTerm.constant d) off = rw (digits_again d, off) refl
 term_again (IsTerm.column n) off = rw (no_digits_at_name n, name_again n) refl
 term_again (IsTerm.multiple d s n) off = rw (digits_again d, sign_again s, name_again n) refl
 
-no_sign_at_term : (s : List ℕ) {m : Bool} {x : TermPart} {ts rest : List Symbol} → IsTerm m x ts rest → sign_at s ts ≡ None
+no_sign_at_term : (s : List ℕ) {m : Bool} {x : TermPart} {ts rest : List Symbol} → IsTerm m x ts rest
+    → sign_at s ts ≡ None
 no_sign_at_term s (IsTerm.constant d) = no_sign_at_digits s d
 no_sign_at_term s (IsTerm.column n) = no_sign_at_name s n
 no_sign_at_term s (IsTerm.multiple d t n) = no_sign_at_digits s d
@@ -220,7 +240,8 @@ term_within (IsTerm.constant d) = omega (arith, ap length d)
 term_within (IsTerm.column n) = omega (arith, name_shorter n)
 term_within (IsTerm.multiple d s n) = omega (arith, ap length d, ap length s, name_shorter n)
 
-first_term_again : {x : TermPart} {ts rest : List Symbol} → IsFirstTerm x ts rest → sign_at (codes "*") rest ≡ None → first_term_at ts ≡ Some (x, rest)
+first_term_again : {x : TermPart} {ts rest : List Symbol} → IsFirstTerm x ts rest → sign_at (codes "*") rest ≡ None
+    → first_term_at ts ≡ Some (x, rest)
 unfolding first_term_at
 first_term_again (IsFirstTerm.plain d) off = rw (no_sign_at_term (codes "-") d, term_again d off) refl
 first_term_again (IsFirstTerm.minus s d) off = rw (sign_again s, term_again d off) refl
@@ -229,7 +250,8 @@ first_term_within : {x : TermPart} {ts rest : List Symbol} → IsFirstTerm x ts 
 first_term_within (IsFirstTerm.plain d) = term_within d
 first_term_within (IsFirstTerm.minus s d) = omega (arith, ap length s, term_within d)
 
-next_term_again : {x : TermPart} {ts rest : List Symbol} → IsNextTerm x ts rest → sign_at (codes "*") rest ≡ None → next_term_at ts ≡ Some (x, rest)
+next_term_again : {x : TermPart} {ts rest : List Symbol} → IsNextTerm x ts rest → sign_at (codes "*") rest ≡ None
+    → next_term_at ts ≡ Some (x, rest)
 unfolding next_term_at
 next_term_again (IsNextTerm.plus s d) off = rw (sign_again s, term_again d off) refl
 next_term_again (IsNextTerm.minus s d) off = rw (no_other_sign (codes "+") s refl, sign_again s, term_again d off) refl
@@ -254,9 +276,11 @@ terms_readable = record {
   shorter = λ x ts a d. next_term_shorter d;
 }
 
-form_again : {xs : List TermPart} {ts rest : List Symbol} → IsForm xs ts rest → sign_at (codes "+") rest ≡ None → sign_at (codes "-") rest ≡ None
+form_again : {xs : List TermPart} {ts rest : List Symbol} → IsForm xs ts rest → sign_at (codes "+") rest ≡ None
+    → sign_at (codes "-") rest ≡ None
     → sign_at (codes "*") rest ≡ None → form_at ts ≡ Some (xs, rest)
-form_again ds no_plus no_minus no_star = list_again terms_readable (λ x ts a d last. first_term_again d last) ds (rw (no_plus, no_minus) refl) no_star
+form_again ds no_plus no_minus no_star = list_again terms_readable (λ x ts a d last. first_term_again d last) ds
+    (rw (no_plus, no_minus) refl) no_star
 
 -- cases
 
@@ -271,14 +295,17 @@ case_again : {x : CaseTree} {ts rest : List Symbol} → IsCase x ts rest → End
 unfolding case_at
 case_again (IsCase.case f i) ends =
     rw (
-      form_again f (no_sign_at_if (codes "+") i ends.no_plus) (no_sign_at_if (codes "-") i ends.no_minus) (no_sign_at_if (codes "*") i ends.no_star),
+      form_again f (no_sign_at_if (codes "+") i ends.no_plus) (no_sign_at_if (codes "-") i ends.no_minus)
+          (no_sign_at_if (codes "*") i ends.no_star),
       if_again i ends.ends_if,
     ) refl
 
 case_within : {x : CaseTree} {ts rest : List Symbol} → IsCase x ts rest → length rest ≤ length ts
-case_within (IsCase.case f i) = omega (arith, list_within terms_readable (λ x ts a d. first_term_within d) f, if_within i)
+case_within (IsCase.case f i) = omega
+    (arith, list_within terms_readable (λ x ts a d. first_term_within d) f, if_within i)
 
-next_case_again : {x : CaseTree} {ts rest : List Symbol} → IsNextCase x ts rest → EndsCase rest → next_case_at ts ≡ Some (x, rest)
+next_case_again : {x : CaseTree} {ts rest : List Symbol} → IsNextCase x ts rest → EndsCase rest
+    → next_case_at ts ≡ Some (x, rest)
 unfolding next_case_at
 next_case_again (behind s d) ends = rw (sign_again s, case_again d ends) refl
 
@@ -304,7 +331,8 @@ cases_readable = record {
   shorter = λ x ts a d. next_case_shorter d;
 }
 
-cases_again : {xs : List CaseTree} {ts rest : List Symbol} → IsCases xs ts rest → sign_at (codes ";") rest ≡ None → EndsCase rest → cases_at ts ≡ Some (xs, rest)
+cases_again : {xs : List CaseTree} {ts rest : List Symbol} → IsCases xs ts rest → sign_at (codes ";") rest ≡ None
+    → EndsCase rest → cases_at ts ≡ Some (xs, rest)
 cases_again ds off last = list_again cases_readable (λ x ts a d last. case_again d last) ds (rw off refl) last
 
 -- picks
@@ -313,7 +341,8 @@ pick_again : {x : PickTree} {ts rest : List Symbol} → IsPick x ts rest → End
 unfolding pick_at
 pick_again (IsPick.pick n i) ends = rw (name_again n, if_again i ends) refl
 
-next_pick_again : {x : PickTree} {ts rest : List Symbol} → IsNextPick x ts rest → EndsIf rest → next_pick_at ts ≡ Some (x, rest)
+next_pick_again : {x : PickTree} {ts rest : List Symbol} → IsNextPick x ts rest → EndsIf rest
+    → next_pick_at ts ≡ Some (x, rest)
 unfolding next_pick_at
 next_pick_again (behind s d) ends = rw (sign_again s, pick_again d ends) refl
 
@@ -321,7 +350,8 @@ next_pick_begun : {x : PickTree} {ts rest : List Symbol} → IsNextPick x ts res
 next_pick_begun (behind s d) = rw (sign_again s) refl
 
 next_pick_goes_on : {x : PickTree} {ts rest : List Symbol} → IsNextPick x ts rest → EndsIf ts
-next_pick_goes_on (behind s d) = record { no_if = no_word_at_sign (codes "if") s; no_and = no_word_at_sign (codes "and") s }
+next_pick_goes_on (behind s d) = record
+    { no_if = no_word_at_sign (codes "if") s; no_and = no_word_at_sign (codes "and") s }
 
 pick_within : {x : PickTree} {ts rest : List Symbol} → IsPick x ts rest → length rest ≤ length ts
 pick_within (IsPick.pick n i) = omega (arith, name_shorter n, if_within i)
@@ -337,7 +367,8 @@ picks_readable = record {
   shorter = λ x ts a d. next_pick_shorter d;
 }
 
-picks_again : {xs : List PickTree} {ts rest : List Symbol} → IsPicks xs ts rest → sign_at (codes ";") rest ≡ None → EndsIf rest → picks_at ts ≡ Some (xs, rest)
+picks_again : {xs : List PickTree} {ts rest : List Symbol} → IsPicks xs ts rest → sign_at (codes ";") rest ≡ None
+    → EndsIf rest → picks_at ts ≡ Some (xs, rest)
 picks_again ds off last = list_again picks_readable (λ x ts a d last. pick_again d last) ds (rw off refl) last
 
 -- tests
@@ -347,7 +378,8 @@ unfolding check_at
 check_again (IsCheck.compare c z) = rw (no_word_at_cmp (codes "mod") c, cmp_again c, num_again z) refl
 check_again (IsCheck.modulo w d s e) = rw (word_again w, digits_again d, sign_again s, digits_again e) refl
 
-test_again : {x : TestTree} {ts rest : List Symbol} → IsTest x ts rest → begins_name rest ≡ false → test_at ts ≡ Some (x, rest)
+test_again : {x : TestTree} {ts rest : List Symbol} → IsTest x ts rest → begins_name rest ≡ false
+    → test_at ts ≡ Some (x, rest)
 unfolding test_at fold_at
 test_again (IsTest.sum w n k) off = rw (word_again w, name_again n, check_again k) refl
 test_again (IsTest.length w k) off = rw (no_other_word (codes "sum") w refl, word_again w, check_again k) refl
@@ -358,7 +390,8 @@ test_again (IsTest.fold w n v p u e) off =
       word_again w,
       name_again n,
       word_again v,
-      picks_again p (no_sign_at_word (codes ";") u) (record { no_if = no_other_word (codes "if") u refl; no_and = no_other_word (codes "and") u refl }),
+      picks_again p (no_sign_at_word (codes ";") u)
+          (record { no_if = no_other_word (codes "if") u refl; no_and = no_other_word (codes "and") u refl }),
       word_again u,
       names_again e off,
     ) refl
@@ -382,9 +415,16 @@ goal_again : {x : GoalPart} {ts rest : List Symbol} → IsGoal x ts rest → goa
 unfolding goal_at best_at
 goal_again (IsGoal.count w) = rw (word_again w) refl
 goal_again (IsGoal.any w) = rw (no_other_word (codes "count") w refl, word_again w) refl
-goal_again (IsGoal.max w n) = rw (no_other_word (codes "count") w refl, no_other_word (codes "any") w refl, word_again w, name_again n) refl
+goal_again (IsGoal.max w n) = rw
+    (no_other_word (codes "count") w refl, no_other_word (codes "any") w refl, word_again w, name_again n) refl
 goal_again (IsGoal.min w n) =
-    rw (no_other_word (codes "count") w refl, no_other_word (codes "any") w refl, no_other_word (codes "max") w refl, word_again w, name_again n) refl
+    rw (
+      no_other_word (codes "count") w refl,
+      no_other_word (codes "any") w refl,
+      no_other_word (codes "max") w refl,
+      word_again w,
+      name_again n,
+    ) refl
 goal_again (IsGoal.best w d e n) =
     rw (
       no_other_word (codes "count") w refl,
@@ -422,7 +462,8 @@ case_at_end = record {
 line_again : {x : KindTree} {ts : List Symbol} → IsLine x ts [] → line_at ts ≡ Some (x, [])
 unfolding line_at measure_at table_at times_at
 line_again (IsLine.columns w d) = rw (word_again w, items_again d no_name_at_end (no_sign_at_end (codes "="))) refl
-line_again (IsLine.labels w d) = rw (no_other_word (codes "columns") w refl, word_again w, names_again d no_name_at_end) refl
+line_again (IsLine.labels w d) = rw
+    (no_other_word (codes "columns") w refl, word_again w, names_again d no_name_at_end) refl
 line_again (IsLine.measure w n s d) =
     rw (
       no_other_word (codes "columns") w refl,

@@ -12,7 +12,8 @@ abbrev pub with_front : {A : Type 0} → List A → Option (List A × List Symbo
 with_front front read = read >>= λ x. Some (front ++ x.0, x.1)
 
 -- the items read so far, and those that are still read, are the whole
-pub record SoFar {A : Type 0} (begins : List Symbol → Bool) (read : List Symbol → Option (A × List Symbol)) (n : ℕ) (front : List A) (ts : List Symbol) (whole : Option (List A × List Symbol)) : Type 0 where
+pub record SoFar {A : Type 0} (begins : List Symbol → Bool) (read : List Symbol → Option (A × List Symbol)) (n : ℕ)
+    (front : List A) (ts : List Symbol) (whole : Option (List A × List Symbol)) : Type 0 where
   pub joined : with_front front (many begins read n ts) ≡ whole
 
 regroup : {A : Type 0} (front : List A) (x : A) (read : Option (List A × List Symbol))
@@ -43,7 +44,8 @@ module _ {A : Type 0} {begins : List Symbol → Bool} {read : List Symbol → Op
       sym so_far.joined ∙ one
 
   pub at_item : {n : ℕ} {front : List A} {ts : List Symbol} {whole : Option (List A × List Symbol)}
-      → SoFar begins read n front ts whole → begins ts ≡ true → (m : ℕ) → n ≡ suc m → (x : A) (after : List Symbol) → read ts ≡ Some (x, after)
+      → SoFar begins read n front ts whole → begins ts ≡ true → (m : ℕ) → n ≡ suc m → (x : A) (after : List Symbol)
+      → read ts ≡ Some (x, after)
       → SoFar begins read m (front ++ x ∷ []) after whole
   unfolding many
   at_item {n = n} {front = front} {ts = ts} so_far on m more x after item =
@@ -52,7 +54,8 @@ module _ {A : Type 0} {begins : List Symbol → Bool} {read : List Symbol → Op
       record { joined = sym one ∙ so_far.joined }
 
   pub at_fault : {n : ℕ} {front : List A} {ts : List Symbol} {whole : Option (List A × List Symbol)}
-      → SoFar begins read n front ts whole → begins ts ≡ true → (m : ℕ) → n ≡ suc m → (fault : LineFault) → Fails fault (read ts)
+      → SoFar begins read n front ts whole → begins ts ≡ true → (m : ℕ) → n ≡ suc m → (fault : LineFault)
+      → Fails fault (read ts)
       → Fails fault whole
   unfolding many
   at_fault so_far on m more faults.Memory fails = tt

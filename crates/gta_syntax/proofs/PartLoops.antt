@@ -31,7 +31,8 @@ with_front front (Ok parts) = Ok (front ++ parts)
 with_front front (Err fault) = Err fault
 
 -- the parts read so far, and those of the lines that are left, are the whole
-pub record PartsSoFar (source : List ℕ) (front : List PartTree) (lines : List Numbered) (whole : Result (List PartTree) SpecFault) : Type 0 where
+pub record PartsSoFar (source : List ℕ) (front : List PartTree) (lines : List Numbered)
+    (whole : Result (List PartTree) SpecFault) : Type 0 where
   pub joined : with_front front (parts_from source lines) ≡ whole
 
 no_front : (parts : Result (List PartTree) SpecFault) → with_front [] parts ≡ parts
@@ -53,23 +54,29 @@ parts_at_end {source = source} {front = front} so_far =
     let one : with_front front (parts_from source []) ≡ Ok front = rw (append-nil front) refl in
     sym so_far.joined ∙ one
 
-pub parts_at_line : {source : List ℕ} {front : List PartTree} {line : Numbered} {lines : List Numbered} {whole : Result (List PartTree) SpecFault}
-    → PartsSoFar source front (line ∷ lines) whole → (part : PartTree) → the_part line.number (part_at (symbols source line.tokens)) ≡ Ok part
+pub parts_at_line : {source : List ℕ} {front : List PartTree} {line : Numbered} {lines : List Numbered}
+    {whole : Result (List PartTree) SpecFault}
+    → PartsSoFar source front (line ∷ lines) whole → (part : PartTree)
+    → the_part line.number (part_at (symbols source line.tokens)) ≡ Ok part
     → PartsSoFar source (front ++ part ∷ []) lines whole
 unfolding parts_from
 parts_at_line {source = source} {front = front} {line = line} {lines = lines} so_far part is =
-    let one : with_front front (parts_from source (line ∷ lines)) ≡ with_front (front ++ part ∷ []) (parts_from source lines) =
+    let one : with_front front (parts_from source (line ∷ lines)) ≡ with_front (front ++ part ∷ [])
+    (parts_from source lines) =
     rw is (regroup front part (parts_from source lines)) in
     record { joined = sym one ∙ so_far.joined }
 
-parts_at_refusal : {source : List ℕ} {front : List PartTree} {line : Numbered} {lines : List Numbered} {whole : Result (List PartTree) SpecFault}
-    → PartsSoFar source front (line ∷ lines) whole → (fault : SpecFault) → the_part line.number (part_at (symbols source line.tokens)) ≡ Err fault → whole ≡ Err fault
+parts_at_refusal : {source : List ℕ} {front : List PartTree} {line : Numbered} {lines : List Numbered}
+    {whole : Result (List PartTree) SpecFault}
+    → PartsSoFar source front (line ∷ lines) whole → (fault : SpecFault)
+    → the_part line.number (part_at (symbols source line.tokens)) ≡ Err fault → whole ≡ Err fault
 unfolding parts_from
 parts_at_refusal {source = source} {front = front} {line = line} {lines = lines} so_far fault is =
     let one : with_front front (parts_from source (line ∷ lines)) ≡ Err fault = rw is refl in
     sym so_far.joined ∙ one
 
-pub parts_at_fault : {source : List ℕ} {front : List PartTree} {line : Numbered} {lines : List Numbered} {whole : Result (List PartTree) SpecFault}
+pub parts_at_fault : {source : List ℕ} {front : List PartTree} {line : Numbered} {lines : List Numbered}
+    {whole : Result (List PartTree) SpecFault}
     → PartsSoFar source front (line ∷ lines) whole → (fault : SpecFault)
     → Carries (the_part line.number (part_at (symbols source line.tokens))) (fault_in fault)
     → Carries whole (fault_in fault)

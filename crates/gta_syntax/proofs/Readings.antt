@@ -24,16 +24,23 @@ use Rattle.gta_syntax.proofs.PartLoops.{past_here, past_later}
 
 -- parts
 
-pub parts_again : {source : List ℕ} {lines : List Numbered} {parts : List PartTree} → AreParts source lines parts → parts_from source lines ≡ Ok parts
+pub parts_again : {source : List ℕ} {lines : List Numbered} {parts : List PartTree} → AreParts source lines parts
+    → parts_from source lines ≡ Ok parts
 unfolding parts_from
 parts_again none = refl
 parts_again (some d ds) = rw (part_again d, parts_again ds) refl
 
-not_read : (source : List ℕ) (line : Numbered) → ((kind : KindTree) → IsPart kind (symbols source line.tokens) → ⊥) → part_at (symbols source line.tokens) ≡ None
-not_read source line off = elim (part_at (symbols source line.tokens)) as (λ read. part_at (symbols source line.tokens) ≡ read → read ≡ None)
-    [ None ↦ (λ e. refl) | Some kind ↦ (λ e. absurd (off kind ((part_takes (symbols source line.tokens)).holds kind e))) ] refl
+not_read : (source : List ℕ) (line : Numbered) → ((kind : KindTree) → IsPart kind (symbols source line.tokens) → ⊥)
+    → part_at (symbols source line.tokens) ≡ None
+not_read source line off = elim (part_at (symbols source line.tokens)) as
+    (λ read. part_at (symbols source line.tokens) ≡ read → read ≡ None) [
+      | None ↦ (λ e. refl)
+      | Some kind ↦
+          (λ e. absurd (off kind ((part_takes (symbols source line.tokens)).holds kind e)))
+    ] refl
 
-outside_again : {source : List ℕ} {lines : List Numbered} {n : ℕ} → IsFirstOutside source lines n → parts_from source lines ≡ Err (Grammar n)
+outside_again : {source : List ℕ} {lines : List Numbered} {n : ℕ} → IsFirstOutside source lines n
+    → parts_from source lines ≡ Err (Grammar n)
 unfolding parts_from
 outside_again {source = source} (IsFirstOutside.here {line = line} off) = rw (not_read source line off) refl
 outside_again (IsFirstOutside.later d more) = rw (part_again d, outside_again more) refl
@@ -48,8 +55,10 @@ Reads source lines (Err (Number n)) = ⊥
 Reads source lines (Err NoRows) = ⊥
 Reads source lines (Err Memory) = ⊥
 
-reads_more : (source : List ℕ) (line : Numbered) (lines : List Numbered) (kind : KindTree) → IsPart kind (symbols source line.tokens)
-    → (rest : Result (List PartTree) SpecFault) → Reads source lines rest → Reads source (line ∷ lines) (with_part (the_part line.number (Some kind)) rest)
+reads_more : (source : List ℕ) (line : Numbered) (lines : List Numbered) (kind : KindTree)
+    → IsPart kind (symbols source line.tokens)
+    → (rest : Result (List PartTree) SpecFault) → Reads source lines rest
+    → Reads source (line ∷ lines) (with_part (the_part line.number (Some kind)) rest)
 reads_more source line lines kind d (Ok parts) ds = some d ds
 reads_more source line lines kind d (Err (Byte l p)) ds = ds
 reads_more source line lines kind d (Err (Version l)) ds = ds
@@ -58,26 +67,35 @@ reads_more source line lines kind d (Err (Number n)) ds = ds
 reads_more source line lines kind d (Err NoRows) ds = ds
 reads_more source line lines kind d (Err Memory) ds = ds
 
-reads_line : (source : List ℕ) (line : Numbered) (lines : List Numbered) (read : Option KindTree) → part_at (symbols source line.tokens) ≡ read
-    → (rest : Result (List PartTree) SpecFault) → Reads source lines rest → Reads source (line ∷ lines) (with_part (the_part line.number read) rest)
-reads_line source line lines None is rest ds = IsFirstOutside.here (λ kind d. let e : Some kind ≡ None = sym (part_again d) ∙ is in absurd cc)
-reads_line source line lines (Some kind) is rest ds = reads_more source line lines kind ((part_takes (symbols source line.tokens)).holds kind is) rest ds
+reads_line : (source : List ℕ) (line : Numbered) (lines : List Numbered) (read : Option KindTree)
+    → part_at (symbols source line.tokens) ≡ read
+    → (rest : Result (List PartTree) SpecFault) → Reads source lines rest
+    → Reads source (line ∷ lines) (with_part (the_part line.number read) rest)
+reads_line source line lines None is rest ds = IsFirstOutside.here
+    (λ kind d. let e : Some kind ≡ None = sym (part_again d) ∙ is in absurd cc)
+reads_line source line lines (Some kind) is rest ds = reads_more source line lines kind
+    ((part_takes (symbols source line.tokens)).holds kind is) rest ds
 
 reads : (source : List ℕ) (lines : List Numbered) → Reads source lines (parts_from source lines)
 unfolding parts_from
 reads source [] = none
-reads source (line ∷ lines) = reads_line source line lines (part_at (symbols source line.tokens)) refl (parts_from source lines) (reads source lines)
+reads source (line ∷ lines) = reads_line source line lines (part_at (symbols source line.tokens)) refl
+    (parts_from source lines) (reads source lines)
 
 -- numbers
 
-past_again : {source : List ℕ} {lines : List Numbered} {n : ℕ} → IsFirstPast source lines n → first_past source lines ≡ Some n
+past_again : {source : List ℕ} {lines : List Numbered} {n : ℕ} → IsFirstPast source lines n
+    → first_past source lines ≡ Some n
 past_again (IsFirstPast.here on) = past_here _ _ _ on
 past_again (IsFirstPast.later off more) = past_later _ _ _ off ∙ past_again more
 
-none_past_again : (source : List ℕ) (lines : List Numbered) → list_any (λ line. has_past source line.tokens) lines ≡ false → first_past source lines ≡ None
+none_past_again : (source : List ℕ) (lines : List Numbered)
+    → list_any (λ line. has_past source line.tokens) lines ≡ false → first_past source lines ≡ None
 unfolding first_past
 none_past_again source [] off = refl
-none_past_again source (line ∷ lines) off = elim (has_past source line.tokens) as (λ b. (b || list_any (λ line. has_past source line.tokens) lines) ≡ false → cond b (Some line.number) (first_past source lines) ≡ None)
+none_past_again source (line ∷ lines) off = elim (has_past source line.tokens) as
+    (λ b. (b || list_any (λ line. has_past source line.tokens) lines) ≡ false
+    → cond b (Some line.number) (first_past source lines) ≡ None)
     [ true ↦ (λ e. absurd cc) | false ↦ (λ e. none_past_again source lines e) ] off
 
 -- what the numbers of some lines are, by what looking for one past the bound gives
@@ -85,19 +103,26 @@ abbrev Past : List ℕ → List Numbered → Option ℕ → Type 0
 Past source lines None = list_any (λ line. has_past source line.tokens) lines ≡ false
 Past source lines (Some n) = IsFirstPast source lines n
 
-past_line : (source : List ℕ) (line : Numbered) (lines : List Numbered) → has_past source line.tokens ≡ false → (rest : Option ℕ) → Past source lines rest → Past source (line ∷ lines) rest
+past_line : (source : List ℕ) (line : Numbered) (lines : List Numbered) → has_past source line.tokens ≡ false
+    → (rest : Option ℕ) → Past source lines rest → Past source (line ∷ lines) rest
 past_line source line lines off None p = rw off p
 past_line source line lines off (Some n) p = IsFirstPast.later off p
 
 past : (source : List ℕ) (lines : List Numbered) → Past source lines (first_past source lines)
 unfolding first_past
 past source [] = refl
-past source (line ∷ lines) = elim (has_past source line.tokens) as (λ b. has_past source line.tokens ≡ b → Past source (line ∷ lines) (cond b (Some line.number) (first_past source lines)))
-    [ true ↦ (λ e. IsFirstPast.here e) | false ↦ (λ e. past_line source line lines e (first_past source lines) (past source lines)) ] refl
+past source (line ∷ lines) = elim (has_past source line.tokens) as
+    (λ b. has_past source line.tokens ≡ b
+    → Past source (line ∷ lines) (cond b (Some line.number) (first_past source lines))) [
+      | true ↦ (λ e. IsFirstPast.here e)
+      | false ↦
+          (λ e. past_line source line lines e (first_past source lines) (past source lines))
+    ] refl
 
 -- the whole
 
-pub spec_again : {bytes : List ℕ} {spec : SpecTree} {place : ℕ} → SpecText bytes spec place → spec_of bytes ≡ Ok (record { spec = spec; rows_at = place })
+pub spec_again : {bytes : List ℕ} {spec : SpecTree} {place : ℕ} → SpecText bytes spec place
+    → spec_of bytes ≡ Ok (record { spec = spec; rows_at = place })
 unfolding spec_of
 spec_again {bytes = bytes} {spec = spec} {place = place} text =
     rw (text.lines, text.version, parts_again text.parts, none_past_again bytes text.others text.numbers)
@@ -110,24 +135,30 @@ refused_again (IsRefused.no_line e) = rw e refl
 refused_again (IsRefused.version e off) = rw (e, off) refl
 refused_again (IsRefused.grammar e on more) = rw (e, on, outside_again more) refl
 refused_again (IsRefused.number e on ds more) = rw (e, on, parts_again ds, past_again more) refl
-refused_again {bytes = bytes} (IsRefused.no_rows {others = others} e on ds off) = rw (e, on, parts_again ds, none_past_again bytes others off) refl
+refused_again {bytes = bytes} (IsRefused.no_rows {others = others} e on ds off) = rw
+    (e, on, parts_again ds, none_past_again bytes others off) refl
 
 -- what an answer says of the bytes
 abbrev pub Says : List ℕ → Result ReadTree SpecFault → Type 0
 Says bytes (Ok read) = SpecText bytes read.spec read.rows_at
 Says bytes (Err fault) = IsRefused bytes fault
 
-says_numbers : (bytes : List ℕ) (first : Numbered) (others : List Numbered) (rows : Option ℕ) → read_lines bytes ≡ Ok (record { lines = first ∷ others; rows_at = rows })
-    → is_version bytes first.tokens ≡ true → (parts : List PartTree) → AreParts bytes others parts → (read : Option ℕ) → Past bytes others read
+says_numbers : (bytes : List ℕ) (first : Numbered) (others : List Numbered) (rows : Option ℕ)
+    → read_lines bytes ≡ Ok (record { lines = first ∷ others; rows_at = rows })
+    → is_version bytes first.tokens ≡ true → (parts : List PartTree) → AreParts bytes others parts
+    → (read : Option ℕ) → Past bytes others read
     → Says bytes (with_numbers read parts rows)
 says_numbers bytes first others rows e on parts ds (Some n) p = IsRefused.number e on ds p
 says_numbers bytes first others None e on parts ds None p = IsRefused.no_rows e on ds p
 says_numbers bytes first others (Some place) e on parts ds None p =
     record { first = first; others = others; lines = e; version = on; is_one = refl; parts = ds; numbers = p }
 
-says_parts : (bytes : List ℕ) (first : Numbered) (others : List Numbered) (rows : Option ℕ) → read_lines bytes ≡ Ok (record { lines = first ∷ others; rows_at = rows })
-    → is_version bytes first.tokens ≡ true → (read : Result (List PartTree) SpecFault) → Reads bytes others read → Says bytes (with_parts bytes others rows read)
-says_parts bytes first others rows e on (Ok parts) ds = says_numbers bytes first others rows e on parts ds (first_past bytes others) (past bytes others)
+says_parts : (bytes : List ℕ) (first : Numbered) (others : List Numbered) (rows : Option ℕ)
+    → read_lines bytes ≡ Ok (record { lines = first ∷ others; rows_at = rows })
+    → is_version bytes first.tokens ≡ true → (read : Result (List PartTree) SpecFault) → Reads bytes others read
+    → Says bytes (with_parts bytes others rows read)
+says_parts bytes first others rows e on (Ok parts) ds = says_numbers bytes first others rows e on parts ds
+    (first_past bytes others) (past bytes others)
 says_parts bytes first others rows e on (Err (Byte l p)) ds = absurd ds
 says_parts bytes first others rows e on (Err (Version l)) ds = absurd ds
 says_parts bytes first others rows e on (Err (Grammar n)) ds = IsRefused.grammar e on ds
@@ -135,11 +166,16 @@ says_parts bytes first others rows e on (Err (Number n)) ds = absurd ds
 says_parts bytes first others rows e on (Err NoRows) ds = absurd ds
 says_parts bytes first others rows e on (Err Memory) ds = absurd ds
 
-says_lines : (bytes : List ℕ) (lines : List Numbered) (rows : Option ℕ) → read_lines bytes ≡ Ok (record { lines = lines; rows_at = rows }) → Says bytes (with_lines bytes lines rows)
+says_lines : (bytes : List ℕ) (lines : List Numbered) (rows : Option ℕ)
+    → read_lines bytes ≡ Ok (record { lines = lines; rows_at = rows }) → Says bytes (with_lines bytes lines rows)
 says_lines bytes [] rows e = IsRefused.no_line e
 says_lines bytes (first ∷ others) rows e = elim (is_version bytes first.tokens) as
-    (λ b. is_version bytes first.tokens ≡ b → Says bytes (cond b (with_parts bytes others rows (parts_from bytes others)) (Err (Version first.number))))
-    [ true ↦ (λ on. says_parts bytes first others rows e on (parts_from bytes others) (reads bytes others)) | false ↦ (λ off. IsRefused.version e off) ] refl
+    (λ b. is_version bytes first.tokens ≡ b
+    → Says bytes (cond b (with_parts bytes others rows (parts_from bytes others)) (Err (Version first.number)))) [
+      | true ↦ (λ on. says_parts bytes first others rows e on (parts_from bytes others) (reads bytes others))
+      | false ↦
+          (λ off. IsRefused.version e off)
+    ] refl
 
 says_text : (bytes : List ℕ) (read : Result Found BadByte) → read_lines bytes ≡ read → Says bytes (with_text bytes read)
 says_text bytes (Err bad) e = IsRefused.byte e
@@ -149,7 +185,8 @@ pub says : (bytes : List ℕ) → Says bytes (spec_of bytes)
 unfolding spec_of
 says bytes = says_text bytes (read_lines bytes) refl
 
-read_as : (bytes : List ℕ) (spec : SpecTree) (place : ℕ) → spec_of bytes ≡ Ok (record { spec = spec; rows_at = place }) → SpecText bytes spec place
+read_as : (bytes : List ℕ) (spec : SpecTree) (place : ℕ)
+    → spec_of bytes ≡ Ok (record { spec = spec; rows_at = place }) → SpecText bytes spec place
 read_as bytes spec place e = let P : Result ReadTree SpecFault → Type 0 = Says bytes in subst P e (says bytes)
 
 refused_as : (bytes : List ℕ) (fault : SpecFault) → spec_of bytes ≡ Err fault → IsRefused bytes fault

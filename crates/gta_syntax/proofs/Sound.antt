@@ -6,8 +6,15 @@ use Rattle.std.proofs.lemmas.Slice.Eq.{bytes_eq-Decides}
 use Rattle.gta_text.specs.Names.{is_name_text}
 use Rattle.gta_spec.specs.Symbols.{Symbol, Word, Digits, Text, Sign, Stray}
 use Rattle.gta_spec.specs.Parts.{KindTree}
-use Rattle.gta_spec.specs.Grammar.{IsWord, IsSign, IsDigits, IsText, IsName, IsNames, IsNum, IsItem, IsCmp, IsAtom, IsAnd, IsCond, IsIf, IsTerm, IsFirstTerm, IsNextTerm, IsForm, IsCase, IsNextCase, IsCases, IsPick, IsNextPick, IsPicks, IsCheck, IsTest, IsShape, IsEnd, IsGoal, IsLine, IsPart, behind}
-use Rattle.gta_syntax.specs.Rules.{word_at, sign_at, digits_at, text_at, name_at, names_at, num_at, item_at, cmp_at, atom_at, and_at, cond_at, if_at, term_at, first_term_at, next_term_at, form_at, case_at, next_case_at, cases_at, pick_at, next_pick_at, picks_at, check_at, fold_at, test_at, shape_at, end_at, best_at, goal_at, measure_at, table_at, times_at, line_at, part_at, ended_by}
+use Rattle.gta_spec.specs.Grammar.{IsWord, IsSign, IsDigits, IsText, IsName, IsNames, IsNum, IsItem, IsCmp, IsAtom}
+use Rattle.gta_spec.specs.Grammar.{IsAnd, IsCond, IsIf, IsTerm, IsFirstTerm, IsNextTerm, IsForm, IsCase, IsNextCase}
+use Rattle.gta_spec.specs.Grammar.{IsCases, IsPick, IsNextPick, IsPicks, IsCheck, IsTest, IsShape, IsEnd, IsGoal}
+use Rattle.gta_spec.specs.Grammar.{IsLine, IsPart, behind}
+use Rattle.gta_syntax.specs.Rules.{word_at, sign_at, digits_at, text_at, name_at, names_at, num_at, item_at, cmp_at}
+use Rattle.gta_syntax.specs.Rules.{atom_at, and_at, cond_at, if_at, term_at, first_term_at, next_term_at, form_at}
+use Rattle.gta_syntax.specs.Rules.{case_at, next_case_at, cases_at, pick_at, next_pick_at, picks_at, check_at}
+use Rattle.gta_syntax.specs.Rules.{fold_at, test_at, shape_at, end_at, best_at, goal_at, measure_at, table_at}
+use Rattle.gta_syntax.specs.Rules.{times_at, line_at, part_at, ended_by}
 use Rattle.gta_syntax.proofs.Each.{Each, done, nothing, and_then, either, then_is, list_takes}
 
 same_bytes : (xs ys : List ℕ) → bytes_eq xs ys ≡ true → xs ≡ ys
@@ -88,7 +95,8 @@ atom_takes : (ts : List Symbol) → Each (atom_at ts) (λ x. IsAtom x.0 ts x.1)
 unfolding atom_at
 atom_takes ts = either (word_takes (codes "label") ts)
     (λ a w. and_then (name_takes a) (λ x n. done (IsAtom.label w n)))
-    (and_then (name_takes ts) (λ x n. and_then (cmp_takes x.1) (λ c k. and_then (num_takes c.1) (λ z d. done (IsAtom.column n k d)))))
+    (and_then (name_takes ts)
+    (λ x n. and_then (cmp_takes x.1) (λ c k. and_then (num_takes c.1) (λ z d. done (IsAtom.column n k d)))))
 
 and_takes : (ts : List Symbol) → Each (and_at ts) (λ x. IsAnd x.0 ts x.1)
 unfolding and_at
@@ -99,7 +107,8 @@ cond_takes ts = list_takes _ atom_takes and_takes ts
 
 if_takes : (ts : List Symbol) → Each (if_at ts) (λ xs. IsIf xs.0 ts xs.1)
 unfolding if_at
-if_takes ts = either (word_takes (codes "if") ts) (λ a w. then_is (cond_takes a) (λ xs d. IsIf.given w d)) (done IsIf.always)
+if_takes ts = either (word_takes (codes "if") ts) (λ a w. then_is (cond_takes a) (λ xs d. IsIf.given w d))
+    (done IsIf.always)
 
 term_takes : (minus : Bool) (ts : List Symbol) → Each (term_at minus ts) (λ x. IsTerm minus x.0 ts x.1)
 unfolding term_at
@@ -111,12 +120,14 @@ term_takes minus ts = either (digits_takes ts)
 
 first_term_takes : (ts : List Symbol) → Each (first_term_at ts) (λ x. IsFirstTerm x.0 ts x.1)
 unfolding first_term_at
-first_term_takes ts = either (sign_takes (codes "-") ts) (λ a s. then_is (term_takes true a) (λ x d. IsFirstTerm.minus s d))
+first_term_takes ts = either (sign_takes (codes "-") ts)
+    (λ a s. then_is (term_takes true a) (λ x d. IsFirstTerm.minus s d))
     (then_is (term_takes false ts) (λ x d. IsFirstTerm.plain d))
 
 next_term_takes : (ts : List Symbol) → Each (next_term_at ts) (λ x. IsNextTerm x.0 ts x.1)
 unfolding next_term_at
-next_term_takes ts = either (sign_takes (codes "+") ts) (λ a s. then_is (term_takes false a) (λ x d. IsNextTerm.plus s d))
+next_term_takes ts = either (sign_takes (codes "+") ts)
+    (λ a s. then_is (term_takes false a) (λ x d. IsNextTerm.plus s d))
     (and_then (sign_takes (codes "-") ts) (λ a s. then_is (term_takes true a) (λ x d. IsNextTerm.minus s d)))
 
 form_takes : (ts : List Symbol) → Each (form_at ts) (λ xs. IsForm xs.0 ts xs.1)
@@ -147,13 +158,18 @@ picks_takes ts = list_takes _ pick_takes next_pick_takes ts
 check_takes : (ts : List Symbol) → Each (check_at ts) (λ x. IsCheck x.0 ts x.1)
 unfolding check_at
 check_takes ts = either (word_takes (codes "mod") ts)
-    (λ a w. and_then (digits_takes a) (λ m d. and_then (sign_takes (codes "=") m.1) (λ b s. and_then (digits_takes b) (λ r e. done (IsCheck.modulo w d s e)))))
+    (λ a w. and_then (digits_takes a)
+    (λ m d. and_then (sign_takes (codes "=") m.1)
+    (λ b s. and_then (digits_takes b) (λ r e. done (IsCheck.modulo w d s e)))))
     (and_then (cmp_takes ts) (λ c k. and_then (num_takes c.1) (λ z d. done (IsCheck.compare k d))))
 
-fold_takes : (ts : List Symbol) → Each (fold_at ts) (λ x. (a : List Symbol) → IsWord (codes "fold") a ts → IsTest x.0 a x.1)
+fold_takes : (ts : List Symbol)
+    → Each (fold_at ts) (λ x. (a : List Symbol) → IsWord (codes "fold") a ts → IsTest x.0 a x.1)
 unfolding fold_at
-fold_takes ts = and_then (name_takes ts) (λ x n. and_then (word_takes (codes "by") x.1) (λ a w. and_then (picks_takes a) (λ ps p.
-    and_then (word_takes (codes "accept") ps.1) (λ b v. and_then (names_takes b) (λ es e. done (λ t f. IsTest.fold f n w p v e))))))
+fold_takes ts = and_then (name_takes ts)
+    (λ x n. and_then (word_takes (codes "by") x.1) (λ a w. and_then (picks_takes a) (λ ps p.
+    and_then (word_takes (codes "accept") ps.1)
+    (λ b v. and_then (names_takes b) (λ es e. done (λ t f. IsTest.fold f n w p v e))))))
 
 test_takes : (ts : List Symbol) → Each (test_at ts) (λ x. IsTest x.0 ts x.1)
 unfolding test_at
@@ -176,9 +192,11 @@ unfolding end_at
 end_takes ts = either (word_takes (codes "max") ts) (λ a w. done (IsEnd.greatest w))
     (and_then (word_takes (codes "min") ts) (λ a w. done (IsEnd.least w)))
 
-best_takes : (ts : List Symbol) → Each (best_at ts) (λ x. (a : List Symbol) → IsWord (codes "best") a ts → IsGoal x.0 a x.1)
+best_takes : (ts : List Symbol)
+    → Each (best_at ts) (λ x. (a : List Symbol) → IsWord (codes "best") a ts → IsGoal x.0 a x.1)
 unfolding best_at
-best_takes ts = and_then (digits_takes ts) (λ k d. and_then (end_takes k.1) (λ e f. and_then (name_takes e.1) (λ x n. done (λ a w. IsGoal.best w d f n))))
+best_takes ts = and_then (digits_takes ts)
+    (λ k d. and_then (end_takes k.1) (λ e f. and_then (name_takes e.1) (λ x n. done (λ a w. IsGoal.best w d f n))))
 
 goal_takes : (ts : List Symbol) → Each (goal_at ts) (λ x. IsGoal x.0 ts x.1)
 unfolding goal_at
@@ -188,30 +206,40 @@ goal_takes ts = either (word_takes (codes "count") ts) (λ a w. done (IsGoal.cou
     (either (word_takes (codes "min") ts) (λ a w. and_then (name_takes a) (λ x n. done (IsGoal.min w n)))
     (and_then (word_takes (codes "best") ts) (λ a w. then_is (best_takes a) (λ x d. d ts w))))))
 
-measure_takes : (ts : List Symbol) → Each (measure_at ts) (λ x. (a : List Symbol) → IsWord (codes "measure") a ts → IsLine x.0 a x.1)
+measure_takes : (ts : List Symbol)
+    → Each (measure_at ts) (λ x. (a : List Symbol) → IsWord (codes "measure") a ts → IsLine x.0 a x.1)
 unfolding measure_at
-measure_takes ts = and_then (name_takes ts) (λ x n. and_then (sign_takes (codes "=") x.1) (λ a s. and_then (cases_takes a) (λ ks k. done (λ t w. IsLine.measure w n s k))))
+measure_takes ts = and_then (name_takes ts)
+    (λ x n. and_then (sign_takes (codes "=") x.1)
+    (λ a s. and_then (cases_takes a) (λ ks k. done (λ t w. IsLine.measure w n s k))))
 
-table_takes : (ts : List Symbol) → Each (table_at ts) (λ x. (a : List Symbol) → IsWord (codes "table") a ts → IsLine x.0 a x.1)
+table_takes : (ts : List Symbol)
+    → Each (table_at ts) (λ x. (a : List Symbol) → IsWord (codes "table") a ts → IsLine x.0 a x.1)
 unfolding table_at
-table_takes ts = and_then (name_takes ts) (λ x n. and_then (word_takes (codes "unit") x.1) (λ a u. and_then (name_takes a) (λ y m.
-    and_then (word_takes (codes "elements") y.1) (λ b v. and_then (names_takes b) (λ es e. done (λ t w. IsLine.table w n u m v e))))))
+table_takes ts = and_then (name_takes ts)
+    (λ x n. and_then (word_takes (codes "unit") x.1) (λ a u. and_then (name_takes a) (λ y m.
+    and_then (word_takes (codes "elements") y.1)
+    (λ b v. and_then (names_takes b) (λ es e. done (λ t w. IsLine.table w n u m v e))))))
 
-times_takes : (ts : List Symbol) → Each (times_at ts) (λ x. (a : List Symbol) → IsWord (codes "times") a ts → IsLine x.0 a x.1)
+times_takes : (ts : List Symbol)
+    → Each (times_at ts) (λ x. (a : List Symbol) → IsWord (codes "times") a ts → IsLine x.0 a x.1)
 unfolding times_at
-times_takes ts = and_then (name_takes ts) (λ x n. and_then (name_takes x.1) (λ y m. and_then (sign_takes (codes "=") y.1) (λ a s.
+times_takes ts = and_then (name_takes ts)
+    (λ x n. and_then (name_takes x.1) (λ y m. and_then (sign_takes (codes "=") y.1) (λ a s.
     and_then (names_takes a) (λ ps p. done (λ t w. IsLine.times w n m s p)))))
 
 line_takes : (ts : List Symbol) → Each (line_at ts) (λ x. IsLine x.0 ts x.1)
 unfolding line_at
-line_takes ts = either (word_takes (codes "columns") ts) (λ a w. and_then (list_takes _ item_takes item_takes a) (λ xs d. done (IsLine.columns w d)))
+line_takes ts = either (word_takes (codes "columns") ts)
+    (λ a w. and_then (list_takes _ item_takes item_takes a) (λ xs d. done (IsLine.columns w d)))
     (either (word_takes (codes "labels") ts) (λ a w. and_then (names_takes a) (λ xs d. done (IsLine.labels w d)))
     (either (word_takes (codes "measure") ts) (λ a w. then_is (measure_takes a) (λ x d. d ts w))
     (either (word_takes (codes "table") ts) (λ a w. then_is (table_takes a) (λ x d. d ts w))
     (either (word_takes (codes "times") ts) (λ a w. then_is (times_takes a) (λ x d. d ts w))
     (either (word_takes (codes "generate") ts) (λ a w. and_then (shape_takes a) (λ s d. done (IsLine.generate w d)))
     (either (word_takes (codes "test") ts) (λ a w. and_then (test_takes a) (λ t d. done (IsLine.test w d)))
-    (and_then (word_takes (codes "aggregate") ts) (λ a w. and_then (goal_takes a) (λ x d. done (IsLine.aggregate w d))))))))))
+    (and_then (word_takes (codes "aggregate") ts)
+    (λ a w. and_then (goal_takes a) (λ x d. done (IsLine.aggregate w d))))))))))
 
 ended_takes : (x : KindTree) (ts rest : List Symbol) → IsLine x ts rest → Each (ended_by x rest) (λ y. IsPart y ts)
 ended_takes x ts [] d = done d

@@ -24,7 +24,8 @@ fold_capped_from : (c : ℕ) (bs : List ℕ) (m n : ℕ) → IsTrue (list_all is
     → fold (capped_step c) m bs ≡ min (digits_value_after 10 n bs) c
 fold_capped_from c [] m n digits is = is
 fold_capped_from c (b ∷ bs) m n digits is =
-    fold_capped_from c bs _ _ (other_digits b bs digits) (capped_same c m n (b - 48) (digit_value b) is (sym (digit_is b (first_digit b bs digits))))
+    fold_capped_from c bs _ _ (other_digits b bs digits)
+    (capped_same c m n (b - 48) (digit_value b) is (sym (digit_is b (first_digit b bs digits))))
 
 pub fold_capped : (c : ℕ) (bs : List ℕ) → IsTrue (list_all is_digit bs)
     → fold (capped_step c) 0 bs ≡ min (digits_value 10 bs) c

@@ -1,12 +1,14 @@
 -- Going over a text line by line.
-use Rattle.std.proofs.Common.{◌≡◌, ℕ, suc, ◌+◌, ◌<◌, true, false, List, [], ◌∷◌, ◌++◌, length, min, take, drop, refl, sym, ◌∙◌, arith, append_assoc}
+use Rattle.std.proofs.Common.{◌≡◌, ℕ, suc, ◌+◌, ◌<◌, true, false, List, [], ◌∷◌, ◌++◌, length, min, take, drop, refl}
+use Rattle.std.proofs.Common.{sym, ◌∙◌, arith, append_assoc}
 use Rattle.std.proofs.lemmas.List.{append-nil, nil_from_length}
 use Rattle.std.specs.Prelude.{if◌then◌else◌, ◌==◌, Some, None, Result, Ok, Err}
 use Rattle.std.specs.List.{prefix_len, onto_first}
 use Rattle.gta_text.specs.declared.token.Token.{Token}
 use Rattle.gta_text.specs.Lines.{is_inside}
 use Rattle.gta_text.specs.Tokens.{tokens_from}
-use Rattle.gta_text.specs.Text.{raw_lines, content, is_rows, first_bad, Found, BadByte, Numbered, line_if, with_lines, unless_bad, lines_from}
+use Rattle.gta_text.specs.Text.{raw_lines, content, is_rows, first_bad, Found, BadByte, Numbered, line_if, with_lines}
+use Rattle.gta_text.specs.Text.{unless_bad, lines_from}
 
 -- the length of the first line with its LF
 abbrev pub line_length : List ℕ → ℕ
@@ -50,7 +52,8 @@ pub no_front : (found : Result Found BadByte) → with_lines [] found ≡ found
 no_front (Ok found) = refl
 no_front (Err bad) = refl
 
-regroup : (front more : List Numbered) (found : Result Found BadByte) → with_lines front (with_lines more found) ≡ with_lines (front ++ more) found
+regroup : (front more : List Numbered) (found : Result Found BadByte)
+    → with_lines front (with_lines more found) ≡ with_lines (front ++ more) found
 regroup front more (Ok found) = simp append_assoc
 regroup front more (Err bad) = refl
 
@@ -64,7 +67,8 @@ pub record Turn (place n : ℕ) (rest line after held : List ℕ) (tokens : List
   pub read : tokens ≡ tokens_from 0 place held
 
 -- the lines found so far, and those that are still read, are all lines
-pub record SoFar (source rest : List ℕ) (front : List Numbered) (number place : ℕ) (whole : Result Found BadByte) : Type 0 where
+pub record SoFar (source rest : List ℕ) (front : List Numbered) (number place : ℕ) (whole : Result Found BadByte) :
+    Type 0 where
   pub joined : with_lines front (lines_from source number place (raw_lines rest)) ≡ whole
 
 pub at_end : {source rest : List ℕ} {front : List Numbered} {number place : ℕ} {whole : Result Found BadByte}
@@ -73,23 +77,31 @@ pub at_end : {source rest : List ℕ} {front : List Numbered} {number place : �
 unfolding raw_lines lines_from
 at_end {source = source} {rest = rest} {front = front} {number = number} {place = place} so_far none =
     let empty : rest ≡ [] = nil_from_length rest none in
-    let one : with_lines front (lines_from source number place (raw_lines rest)) ≡ Ok (record { lines = front; rows_at = None }) =
+    let one : with_lines front (lines_from source number place (raw_lines rest)) ≡ Ok
+    (record { lines = front; rows_at = None }) =
     rw (empty, append-nil front) refl in
     sym so_far.joined ∙ one
 
-module _ {source rest : List ℕ} {front : List Numbered} {number place n : ℕ} {line after held : List ℕ} {tokens : List Token} {whole : Result Found BadByte}
+module _ {source rest : List ℕ} {front : List Numbered} {number place n : ℕ} {line after held : List ℕ}
+    {tokens : List Token} {whole : Result Found BadByte}
     (turn : Turn place n rest line after held tokens) (so_far : SoFar source rest front number place whole) where
-  at_line : with_lines front (if is_rows source tokens then Ok (record { lines = []; rows_at = Some (place + length line) })
-      else unless_bad number (first_bad held) (with_lines (line_if number tokens) (lines_from source (number + 1) (place + length line) (raw_lines after)))) ≡ whole
+  at_line : with_lines front
+      (if is_rows source tokens then Ok (record { lines = []; rows_at = Some (place + length line) })
+      else unless_bad number (first_bad held)
+      (with_lines (line_if number tokens)
+      (lines_from source (number + 1) (place + length line) (raw_lines after)))) ≡ whole
   unfolding lines_from
   at_line =
-      let unfolds : raw_lines rest ≡ line ∷ raw_lines after = rw (turn.front, turn.back, turn.len) (raw_next rest turn.some) in
+      let unfolds : raw_lines rest ≡ line ∷ raw_lines after = rw (turn.front, turn.back, turn.len)
+      (raw_next rest turn.some) in
       rw (turn.read, turn.holds) (rw unfolds at so_far.joined)
 
-  pub at_rows : is_rows source tokens ≡ true → whole ≡ Ok (record { lines = front; rows_at = Some (place + length line) })
+  pub at_rows : is_rows source tokens ≡ true
+      → whole ≡ Ok (record { lines = front; rows_at = Some (place + length line) })
   at_rows rows = sym (rw (rows, append-nil front) at at_line)
 
-  pub at_bad : (k : ℕ) → is_rows source tokens ≡ false → first_bad held ≡ Some k → whole ≡ Err (record { line = number; place = k + 1 })
+  pub at_bad : (k : ℕ) → is_rows source tokens ≡ false → first_bad held ≡ Some k
+      → whole ≡ Err (record { line = number; place = k + 1 })
   at_bad k no_rows bad = sym (rw (no_rows, bad) at at_line)
 
   pub at_good : is_rows source tokens ≡ false → first_bad held ≡ None

@@ -1,5 +1,6 @@
 -- Going over the bytes of a line: those of a token are passed over.
-use Rattle.std.proofs.Common.{◌≡◌, ℕ, zero, suc, ◌+◌, List, [], ◌∷◌, ◌++◌, drop, refl, sym, ◌∙◌, ap, arith, add-zero, append_assoc}
+use Rattle.std.proofs.Common.{◌≡◌, ℕ, zero, suc, ◌+◌, List, [], ◌∷◌, ◌++◌, drop, refl, sym, ◌∙◌, ap, arith, add-zero}
+use Rattle.std.proofs.Common.{append_assoc}
 use Rattle.std.specs.Prelude.{false, nat_eq}
 use Rattle.gta_text.specs.declared.token.Token.{Token}
 use Rattle.gta_text.specs.Tokens.{is_blank, token_at, tokens_from}

@@ -1,5 +1,7 @@
 -- A text as its lines of tokens, up to the line `rows`, and the first byte that may not stand there.
-use Rattle.std.specs.Prelude.{◌≡◌, ℕ, ◌+◌, ◌-◌, ◌<◌, ◌≤◌, Bool, true, false, not, ◌&&◌, ◌||◌, List, [], ◌∷◌, ◌++◌, length, take, drop, map, ◌==◌, nat_eq, nat_lt, nat_le, if◌then◌else◌, slice_index, slice_range, position, Option, Some, None, Result, Ok, Err, codes}
+use Rattle.std.specs.Prelude.{◌≡◌, ℕ, ◌+◌, ◌-◌, ◌<◌, ◌≤◌, Bool, true, false, not, ◌&&◌, ◌||◌, List, [], ◌∷◌, ◌++◌}
+use Rattle.std.specs.Prelude.{length, take, drop, map, ◌==◌, nat_eq, nat_lt, nat_le, if◌then◌else◌, slice_index}
+use Rattle.std.specs.Prelude.{slice_range, position, Option, Some, None, Result, Ok, Err, codes}
 use Rattle.std.specs.List.{onto_first, starts_with}
 use Rattle.std.specs.Str.{bytes_eq}
 use Rattle.gta_text.specs.declared.token.TokenKind.{TokenKind}

@@ -1,5 +1,6 @@
 -- The tokens of a line. They are read from the left, each as long as possible.
-use Rattle.std.specs.Prelude.{ℕ, zero, suc, ◌+◌, Bool, false, not, ◌&&◌, ◌||◌, List, [], ◌∷◌, drop, ◌==◌, nat_le, if◌then◌else◌}
+use Rattle.std.specs.Prelude.{ℕ, zero, suc, ◌+◌, Bool, false, not, ◌&&◌, ◌||◌, List, [], ◌∷◌, drop, ◌==◌, nat_le}
+use Rattle.std.specs.Prelude.{if◌then◌else◌}
 use Rattle.std.specs.List.{prefix_len}
 use Rattle.gta_text.specs.declared.token.TokenKind.{TokenKind}
 use Rattle.gta_text.specs.declared.token.TokenKind.TheVariants.{Word, Digits, Text, Sign, Stray}

@@ -76,7 +76,8 @@ module _ (all : List PartTree) (line : ℕ) (table : List ℕ) (is : is_of ATabl
       → EachFits (Known all) (flat_map (uses_of_pick line table) picks)
       → All (IsPickWithin (column_count all) (label_count all) (length (elements all table)))
       (map (resolved_pick (environment all) (elements all table)) picks)
-  picks_within [] atoms known = All-nil (IsPickWithin (column_count all) (label_count all) (length (elements all table)))
+  picks_within [] atoms known = All-nil
+      (IsPickWithin (column_count all) (label_count all) (length (elements all table)))
   picks_within (pick ∷ picks) atoms known =
       let a = or_false_parts _ _ atoms in
       let here = each_front (Known all) (uses_of_pick line table pick) _ known in

@@ -291,7 +291,8 @@ within_limits spec sound checked resolved tables =
           let count = length-map (tables_in all) (named_table all) in rw resolved.tables (omega (arith, few, count)));
       tables = tables;
       few_tests = rw resolved.tests (few_tests all sound.kept);
-      tests = rw (resolved.columns, resolved.labels, resolved.measures, resolved.tables, resolved.tests) (all_tests all sound.facts);
+      tests = rw (resolved.columns, resolved.labels, resolved.measures, resolved.tables, resolved.tests)
+          (all_tests all sound.facts);
       goal = rw resolved.measures (goal_within all sound checked.goal resolved.goal);
     }
 

@@ -1,5 +1,7 @@
 -- What the description of a command tells of the command: its arguments, and that none excludes another.
-use Rattle.std.proofs.Common.{◌≡◌, ◌⊎◌, ◌∙◌, ◌<◌, ◌≤◌, ◌&&◌, ℕ, Bool, true, false, not, zero, suc, refl, sym, ap, subst, inl, inr, arith, List, [], ◌∷◌, map, length, Option, Some, None, is_some, codes, true≢false}
+use Rattle.std.proofs.Common.{◌≡◌, ◌⊎◌, ◌∙◌, ◌<◌, ◌≤◌, ◌&&◌, ℕ, Bool, true, false, not, zero, suc, refl, sym, ap}
+use Rattle.std.proofs.Common.{subst, inl, inr, arith, List, [], ◌∷◌, map, length, Option, Some, None, is_some, codes}
+use Rattle.std.proofs.Common.{true≢false}
 use Rattle.std.specs.Prelude.{pos}
 use Rattle.std.specs.Borrow.{Bor}
 use Rattle.std.specs.List.{All, list_all, slice_index_or}
@@ -151,7 +153,8 @@ differs : (a b : Text) → bytes_eq a b ≡ false → a ≡ b → ⊥
 differs a b apart same = true≢false (sym ((bytes_eq-Decides a b).1 same) ∙ apart)
 
 -- the argument of a rule for a number, where it is required or has a default
-pub number_arg : (least most : ℕ) (r : Rule) (a : Arg) → rule_of a ≡ r → IsNumberRule least most r → IsNumberArg least most a
+pub number_arg : (least most : ℕ) (r : Rule) (a : Arg) → rule_of a ≡ r → IsNumberRule least most r
+    → IsNumberArg least most a
 number_arg least most r a is rule =
     let id_is : a.id.now ≡ r.id = ap (λ (r : Rule). r.id) is in
     let defaults_are : texts (items_of a.default_vals) ≡ r.defaults = ap (λ (r : Rule). r.defaults) is in

@@ -1,5 +1,6 @@
 -- What a parse that found no fault holds for an argument that takes one number: a text that its parser accepted.
-use Rattle.std.proofs.Common.{◌≡◌, ◌⊎◌, ◌∙◌, ◌<◌, ◌≤◌, ℕ, Bool, true, false, zero, suc, refl, sym, ap, subst, inl, inr, arith, List, [], ◌∷◌, length, Option, Some, None, is_some, true≢false, option_map}
+use Rattle.std.proofs.Common.{◌≡◌, ◌⊎◌, ◌∙◌, ◌<◌, ◌≤◌, ℕ, Bool, true, false, zero, suc, refl, sym, ap, subst, inl}
+use Rattle.std.proofs.Common.{inr, arith, List, [], ◌∷◌, length, Option, Some, None, is_some, true≢false, option_map}
 use Rattle.std.specs.Prelude.{pos, find, slice_get}
 use Rattle.std.specs.Borrow.{Bor}
 use Rattle.std.specs.List.{All, slice_index_or}
@@ -7,7 +8,8 @@ use Rattle.std.specs.Str.{bytes_eq}
 use Rattle.std.proofs.lemmas.List.Elements.{All-get_or}
 use Rattle.std.proofs.lemmas.Slice.Eq.{bytes_eq-Decides}
 use Rattle.clap.specs.Built.{IsAuto, IsParsedFrom, SameRules}
-use Rattle.clap.specs.Facts.{AllowsNone, Entry, EntryPasses, HasIn, HasReading, IsCountArg, PassesArg, args_of, groups_of, least_values, parser_of, parser_of_value}
+use Rattle.clap.specs.Facts.{AllowsNone, Entry, EntryPasses, HasIn, HasReading, IsCountArg, PassesArg, args_of}
+use Rattle.clap.specs.Facts.{groups_of, least_values, parser_of, parser_of_value}
 use Rattle.clap.specs.Matches.{found_of, matched_of, one_text}
 use Rattle.clap.specs.Values.{Accepts, IsSignedIn, reading_of}
 use Rattle.clap.specs.Lexer.{without_minus}
@@ -22,7 +24,8 @@ use Rattle.clap.specs.declared.builder.value_parser.ValueParser.TheVariants.{Sig
 use Rattle.clap.specs.declared.parser.matches.ArgMatches.{ArgMatches}
 use Rattle.clap.specs.declared.parser.matches.Found.{Found}
 use Rattle.clap.specs.declared.parser.matches.MatchedArg.{MatchedArg}
-use Rattle.clap.proofs.CallerLemmas.{default_present, entry_by_id, present_has_entry, required_present, same_rules_by_id}
+use Rattle.clap.proofs.CallerLemmas.{default_present, entry_by_id, present_has_entry, required_present}
+use Rattle.clap.proofs.CallerLemmas.{same_rules_by_id}
 use Rattle.gta_words.proofs.Described.{IsDescribed, IsNumberArg, is_only_at, only_place}
 
 -- ---- of any command and any entry
@@ -46,14 +49,16 @@ abbrev pub KeepsRules : Command → Arg → Type 0
 KeepsRules c a = (j : ℕ) (x : Arg) → j < length (args_of c) → slice_index_or (args_of c) j x ≡ x
     → bytes_eq x.id.now a.id.now ≡ true → SameRules a x
 
-parser_kept : (least most : ℕ) (a x : Arg) → IsNumberArg least most a → SameRules a x → parser_of x ≡ Signed (pos least) (pos most)
+parser_kept : (least most : ℕ) (a x : Arg) → IsNumberArg least most a → SameRules a x
+    → parser_of x ≡ Signed (pos least) (pos most)
 parser_kept least most a x number same = ap parser_of_value (same.parser _ number.parser)
 
 module _ (least most : ℕ) (c : Command) (a : Arg) (number : IsNumberArg least most a) (keeps : KeepsRules c a) where
   passed_text : (v : Text) → PassesArg c a.id.now v → IsSignedIn (pos least) (pos most) v
   passed_text v passes =
       let same = keeps passes.0 passes.1 passes.2 passes.3 passes.4.0 in
-      subst (λ (q : ValueParser). Accepts passes.1.ignore_case q v) (parser_kept least most a passes.1 number same) passes.4.1
+      subst (λ (q : ValueParser). Accepts passes.1.ignore_case q v) (parser_kept least most a passes.1 number same)
+      passes.4.1
 
   reading_is : (how : Reading) → HasReading c a.id.now how → how ≡ WithoutMinus
   reading_is how reads =
@@ -139,10 +144,12 @@ module _ (least most : ℕ) (old : Command) (m : ArgMatches) (p : IsParsedFrom o
   has_entry : is_some (matched_of (found_of m) a.id.now) ≡ true
   has_entry = elim number.given [
     | inl required ↦
-        let used = required_present old m p described.plain described.globals described.negates k a below (rw at required) in
+        let used = required_present old m p described.plain described.globals described.negates k a below
+        (rw at required) in
         present_has_entry (found_of m) a.id.now (rw at at used)
     | inr default ↦
-        has_matched (found_of m).entries.items a.id.now (rw at at (default_present old m p described.globals k a below (rw at default)))
+        has_matched (found_of m).entries.items a.id.now
+        (rw at at (default_present old m p described.globals k a below (rw at default)))
   ]
 
   pub one_signed : HoldsText least most (found_of m) a.id.now

@@ -1,5 +1,6 @@
 -- The numbers that each of our commands holds where the words have no fault.
-use Rattle.std.proofs.Common.{◌≡◌, ◌∙◌, ℕ, false, refl, sym, ap, inl, inr, arith, List, [], Some, None, codes, if◌then◌else◌}
+use Rattle.std.proofs.Common.{◌≡◌, ◌∙◌, ℕ, false, refl, sym, ap, inl, inr, arith, List, [], Some, None, codes}
+use Rattle.std.proofs.Common.{if◌then◌else◌}
 use Rattle.std.specs.Str.{bytes_eq}
 use Rattle.clap.specs.Built.{IsParsedFrom}
 use Rattle.clap.specs.Matches.{found_of}
@@ -8,7 +9,8 @@ use Rattle.clap.specs.Faults.{fault_of}
 use Rattle.clap.specs.Walk.{Row, Text, is_empty, rows_of}
 use Rattle.clap.specs.declared.builder.command.Command.{Command as Parser}
 use Rattle.clap.specs.declared.parser.matches.ArgMatches.{ArgMatches}
-use Rattle.gta_words.specs.Commands.{drill_app, leaf_option, number_argument, number_option, rows_argument, run_app, seed_argument, workers_option}
+use Rattle.gta_words.specs.Commands.{drill_app, leaf_option, number_argument, number_option, rows_argument, run_app}
+use Rattle.gta_words.specs.Commands.{seed_argument, workers_option}
 use Rattle.gta_words.specs.Reading.{HasNumber}
 use Rattle.gta_words.specs.Words.{taken}
 use Rattle.gta_words.specs.declared.words.Command.{Command}
@@ -89,7 +91,8 @@ module _ (c : Parser) (m : ArgMatches) (parsed : IsParsedFrom c m) where
   }
 
 -- a command by the matches of words without a fault is the command that they give
-pub taken_by : (c : Parser) (app : App) (by : List Row → Command) (words : List Text) (rows : List Row) (command : Command)
+pub taken_by : (c : Parser) (app : App) (by : List Row → Command) (words : List Text) (rows : List Row)
+    (command : Command)
     → app_of c ≡ app → fault_of (app_of c) words ≡ [] → rows ≡ matches_of (app_of c) words → by rows ≡ command
     → taken app by words ≡ Some command
 taken_by c app by words rows command is none same made =

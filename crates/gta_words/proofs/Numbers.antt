@@ -1,5 +1,6 @@
 -- The numbers that a command without a fault holds: each option and each argument has one, within its range.
-use Rattle.std.proofs.Common.{◌≡◌, ◌∙◌, ◌<◌, ◌≤◌, ◌==◌, ℕ, Bool, true, false, refl, sym, ap, arith, List, [], ◌∷◌, length, drop, cond, Some}
+use Rattle.std.proofs.Common.{◌≡◌, ◌∙◌, ◌<◌, ◌≤◌, ◌==◌, ℕ, Bool, true, false, refl, sym, ap, arith, List, [], ◌∷◌}
+use Rattle.std.proofs.Common.{length, drop, cond, Some}
 use Rattle.std.specs.Prelude.{◌^◌, pos, Option, None, Result, Ok, Err}
 use Rattle.std.specs.List.{slice_index_or}
 use Rattle.std.specs.Str.Parse.{IsNumeral, ParsesUnsigned, without_leading_plus}
@@ -61,7 +62,8 @@ number_given c m app k r least most parsed is unruled below at only rule =
     let has = described c app is unruled in
     let a = arg_at _ app.top.rules k r has.rules_are below at in
     let id_is : a.0.id.now ≡ r.id = ap (λ (r : Rule). r.id) a.3 in
-    let signed = one_signed least most c m parsed app.top.rules has k a.0 a.1 a.2 (rw id_is only) (number_arg least most r a.0 a.3 rule) in
+    let signed = one_signed least most c m parsed app.top.rules has k a.0 a.1 a.2 (rw id_is only)
+    (number_arg least most r a.0 a.3 rule) in
     let within = signed_number least most signed.0 signed.2 in
     record {
       text = without_minus signed.0;

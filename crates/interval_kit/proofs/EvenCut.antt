@@ -1,5 +1,6 @@
 -- The cut by a leaf size is a cut.
-use Rattle.std.proofs.Common.{◌≡◌, ℕ, ◌+◌, ◌-◌, ◌*◌, ◌<◌, ◌≤◌, ◌∙◌, min, List, [], ◌∷◌, ◌++◌, length, map, Some, get_or, ap, arith, sym, subst}
+use Rattle.std.proofs.Common.{◌≡◌, ℕ, ◌+◌, ◌-◌, ◌*◌, ◌<◌, ◌≤◌, ◌∙◌, min, List, [], ◌∷◌, ◌++◌, length, map, Some}
+use Rattle.std.proofs.Common.{get_or, ap, arith, sym, subst}
 use Rattle.std.specs.Int.{div_ceil}
 use Rattle.std.specs.List.{range_with_len}
 use Rattle.std.specs.Prelude.{slice_get}
@@ -26,7 +27,8 @@ module _ (rows leaf : ℕ) (nonempty : 1 ≤ leaf) where
   leaves_reach = (div_ceil_times rows leaf nonempty).0
 
   even_at : (k : ℕ) → k ≤ div_ceil rows leaf → get_or (even_cut rows leaf) k 0 ≡ min (k * leaf) rows
-  even_at k h = get_or-map-range_with_len (λ j. min (j * leaf) rows) 0 (div_ceil rows leaf + 1) k k 0 (omega arith) (omega arith)
+  even_at k h = get_or-map-range_with_len (λ j. min (j * leaf) rows) 0 (div_ceil rows leaf + 1) k k 0 (omega arith)
+      (omega arith)
 
   even_length : length (even_cut rows leaf) ≡ div_ceil rows leaf + 1
   even_length = length-map-range_with_len (λ j. min (j * leaf) rows) 0 (div_ceil rows leaf + 1)
@@ -49,13 +51,15 @@ module _ (rows leaf : ℕ) (nonempty : 1 ≤ leaf) where
 
   -- the bounds of the first k leaves, and the bound after them
   pub one_more : (k : ℕ) → k < div_ceil rows leaf
-      → map (λ j. min (j * leaf) rows) (range_with_len 0 k) ++ k * leaf ∷ [] ≡ map (λ j. min (j * leaf) rows) (range_with_len 0 (k + 1))
+      → map (λ j. min (j * leaf) rows) (range_with_len 0 k) ++ k * leaf ∷ [] ≡ map (λ j. min (j * leaf) rows)
+      (range_with_len 0 (k + 1))
   one_more k h =
       let start : k * leaf ≡ min (k * leaf) rows = omega (arith, leaf_below k h) in
       ap (λ n. map (λ j. min (j * leaf) rows) (range_with_len 0 k) ++ n ∷ []) start
       ∙ sym (map-range_with_len_more (λ j. min (j * leaf) rows) 0 k k (omega arith))
 
-  pub with_end : (k : ℕ) → k ≡ div_ceil rows leaf → map (λ j. min (j * leaf) rows) (range_with_len 0 k) ++ rows ∷ [] ≡ even_cut rows leaf
+  pub with_end : (k : ℕ) → k ≡ div_ceil rows leaf
+      → map (λ j. min (j * leaf) rows) (range_with_len 0 k) ++ rows ∷ [] ≡ even_cut rows leaf
   with_end k h =
       let end : rows ≡ min (k * leaf) rows = omega (arith, leaves_reach, ap (λ n. n * leaf) h) in
       ap (λ n. map (λ j. min (j * leaf) rows) (range_with_len 0 k) ++ n ∷ []) end

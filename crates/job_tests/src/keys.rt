@@ -1,4 +1,5 @@
-//! Jobs on either side of the number of keys from which on maps are rows of lanes, and large jobs, which have longer leaves.
+//! Jobs on either side of the number of keys from which on maps are rows of lanes, and large jobs, which have longer
+//! leaves.
 
 use crate::jobs::told;
 use std::alloc::Global;
@@ -7,7 +8,8 @@ use std::test::Fail;
 /// What is asked of the candidates that pass.
 const ASKED: [&[u8]; 4] = [b"max v", b"min v", b"any", b"count"];
 
-// Sublists of 3, 5 and 9, whose totals are 0, 3, 5, 8, 9, 12, 14 and 17: a test, which has 15 or 16 keys, and the answers.
+// Sublists of 3, 5 and 9, whose totals are 0, 3, 5, 8, 9, 12, 14 and 17: a test, which has 15 or 16 keys, and the
+// answers.
 const TESTS: [(&[u8], [&[u8]; 4]); 8] = [
     (b"<= 13", [b"12", b"0", b"yes", b"6"]),
     (b"<= 14", [b"14", b"0", b"yes", b"7"]),

@@ -1,4 +1,5 @@
--- The convolution as two sums, and the convolution of sums by key: it is the sum over all pairs of items, by the product
+-- The convolution as two sums, and the convolution of sums by key: it is the sum over all pairs of items, by the
+-- product
 -- of their keys.
 use Rattle.std.proofs.Common.{◌≡◌, ℕ, ◌<◌, List, nat_eq, sym, ap, ◌∙◌}
 use Rattle.std.specs.List.{filter, range_with_len}
@@ -25,18 +26,21 @@ module _ {E : Type 0} {r : SemiringOn E} (laws : IsSemiring r) (size : ℕ) (tim
   -- with a mask in place of the choice of the pairs
   pub convolution-masked : (x y : ℕ → E) (m : ℕ) → ((k : ℕ) → r.is_sound (x k)) → ((k : ℕ) → r.is_sound (y k))
       → convolution r size times x y m
-      ≡ total r (λ a. total r (λ b. masked r (nat_eq (times a b) m) (r.mul (x a) (y b))) (range_with_len 0 size)) (range_with_len 0 size)
+      ≡ total r (λ a. total r (λ b. masked r (nat_eq (times a b) m) (r.mul (x a) (y b))) (range_with_len 0 size))
+      (range_with_len 0 size)
   unfolding convolution
   convolution-masked x y m x_sound y_sound =
       let keys = range_with_len 0 size in
       let product = λ (p : ℕ × ℕ). r.mul (x p.0) (y p.1) in
-      let product_sound = λ (p : ℕ × ℕ). laws.multiplication.product_is_element (x p.0) (y p.1) (x_sound p.0) (y_sound p.1) in
+      let product_sound = λ (p : ℕ × ℕ). laws.multiplication.product_is_element (x p.0) (y p.1) (x_sound p.0)
+      (y_sound p.1) in
       let test = λ (p : ℕ × ℕ). nat_eq (times p.0 p.1) m in
       product_by-filter laws.addition.monoid test product (pairs keys keys) (λ p p_in. product_sound p)
       ∙ product_by-pairs laws.addition.monoid (λ p. masked r (test p) (product p)) keys keys
       (λ a a_in b b_in. (masked-IsAdditive laws (test (a, b))).keeps_elements (product (a, b)) (product_sound (a, b)))
 
-  pub convolution_of_totals : {X Y : Type 0} (key : X → ℕ) (f : X → E) (xs : List X) (label : Y → ℕ) (g : Y → E) (ys : List Y) (m : ℕ)
+  pub convolution_of_totals : {X Y : Type 0} (key : X → ℕ) (f : X → E) (xs : List X) (label : Y → ℕ) (g : Y → E)
+      (ys : List Y) (m : ℕ)
       → AllElements r.is_sound f xs → AllElements (λ k. k < size) key xs
       → AllElements r.is_sound g ys → AllElements (λ k. k < size) label ys
       → convolution r size times (total_at_key r key f xs) (total_at_key r label g ys) m
@@ -63,7 +67,8 @@ module _ {E : Type 0} {r : SemiringOn E} (laws : IsSemiring r) (size : ℕ) (tim
       size key f xs f_sound keys
 
   -- the same, as a sum by key over all pairs of items
-  pub convolution_of_totals-pairs : {X Y : Type 0} (key : X → ℕ) (f : X → E) (xs : List X) (label : Y → ℕ) (g : Y → E) (ys : List Y) (m : ℕ)
+  pub convolution_of_totals-pairs : {X Y : Type 0} (key : X → ℕ) (f : X → E) (xs : List X) (label : Y → ℕ)
+      (g : Y → E) (ys : List Y) (m : ℕ)
       → AllElements r.is_sound f xs → AllElements (λ k. k < size) key xs
       → AllElements r.is_sound g ys → AllElements (λ k. k < size) label ys
       → convolution r size times (total_at_key r key f xs) (total_at_key r label g ys) m

@@ -1,5 +1,6 @@
 -- How loose slots are put one after the other, and how they are gathered in a row from the last to the first.
-use Rattle.std.proofs.Common.{◌≡◌, ℕ, ◌+◌, ◌<◌, ◌≤◌, List, [], ◌∷◌, ◌++◌, length, replicate, nat_eq, Option, None, inl, inr, refl, sym, ap, subst, ◌∙◌, arith}
+use Rattle.std.proofs.Common.{◌≡◌, ℕ, ◌+◌, ◌<◌, ◌≤◌, List, [], ◌∷◌, ◌++◌, length, replicate, nat_eq, Option, None}
+use Rattle.std.proofs.Common.{inl, inr, refl, sym, ap, subst, ◌∙◌, arith}
 use Rattle.std.proofs.lemmas.List.{length_push}
 use Rattle.std.specs.Prelude.{slice_index_or}
 use Rattle.monoid_kit.specs.Items.{AllElements}
@@ -32,8 +33,10 @@ module _ {E : Type 0} {r : SemiringOn E} (laws : IsSemiring r) {size : ℕ} wher
   loose-push : (slots : List (Slot E)) (slot : Slot E) → AreLoose r size slots → slot.key < size → IsGood r slot.elem
       → AreLoose r size (slots ++ slot ∷ [])
   loose-push slots slot loose key_in good = record {
-    keys = AllElements-append (λ key. key < size) key_of slots (slot ∷ []) loose.keys (all_of_one (λ key. key < size) key_of slot key_in);
-    elems = AllElements-append (IsGood r) elem_of slots (slot ∷ []) loose.elems (all_of_one (IsGood r) elem_of slot good);
+    keys = AllElements-append (λ key. key < size) key_of slots (slot ∷ []) loose.keys
+        (all_of_one (λ key. key < size) key_of slot key_in);
+    elems = AllElements-append (IsGood r) elem_of slots (slot ∷ []) loose.elems
+        (all_of_one (IsGood r) elem_of slot good);
   }
 
   loose-front : (slots : List (Slot E)) (slot : Slot E) → AreLoose r size (slots ++ slot ∷ []) → AreLoose r size slots
@@ -45,22 +48,27 @@ module _ {E : Type 0} {r : SemiringOn E} (laws : IsSemiring r) {size : ℕ} wher
   pub loose-last_key : (slots : List (Slot E)) (slot : Slot E) → AreLoose r size (slots ++ slot ∷ []) → slot.key < size
   loose-last_key slots slot loose = loose.keys slot (IsIn-append_right slots (slot ∷ []) slot (inl refl))
 
-  pub loose-last_elem : (slots : List (Slot E)) (slot : Slot E) → AreLoose r size (slots ++ slot ∷ []) → IsGood r slot.elem
+  pub loose-last_elem : (slots : List (Slot E)) (slot : Slot E) → AreLoose r size (slots ++ slot ∷ [])
+      → IsGood r slot.elem
   loose-last_elem slots slot loose = loose.elems slot (IsIn-append_right slots (slot ∷ []) slot (inl refl))
 
-  loose-sound : (slots : List (Slot E)) (k : ℕ) → AreLoose r size slots → r.is_sound (total_at_key r key_of elem_of slots k)
-  loose-sound slots k loose = keyed-is_element laws.addition key_of elem_of slots k (good_are_sound laws elem_of slots loose.elems)
+  loose-sound : (slots : List (Slot E)) (k : ℕ) → AreLoose r size slots
+      → r.is_sound (total_at_key r key_of elem_of slots k)
+  loose-sound slots k loose = keyed-is_element laws.addition key_of elem_of slots k
+      (good_are_sound laws elem_of slots loose.elems)
 
   pushed-sum : (slots : List (Slot E)) (slot : Slot E) (k : ℕ) → AreLoose r size slots → IsGood r slot.elem
       → total_at_key r key_of elem_of (slots ++ slot ∷ []) k
       ≡ r.add (total_at_key r key_of elem_of slots k) (masked r (nat_eq slot.key k) slot.elem)
   pushed-sum slots slot k loose good =
       let at = λ (s : Slot E). masked r (nat_eq (key_of s) k) (elem_of s) in
-      let at_sound = λ (s : Slot E) (s_good : IsGood r (elem_of s)). mask_is_sound laws (key_of s) (elem_of s) k s_good in
+      let at_sound = λ (s : Slot E) (s_good : IsGood r (elem_of s)). mask_is_sound laws (key_of s) (elem_of s) k
+      s_good in
       product_by-append laws.addition.monoid at slots (slot ∷ [])
       (λ s s_in. at_sound s (loose.elems s s_in))
       (λ s s_in. at_sound s (all_of_one (IsGood r) elem_of slot good s s_in))
-      ∙ ap (r.add (total_at_key r key_of elem_of slots k)) (laws.addition.monoid.right_identity (at slot) (at_sound slot good))
+      ∙ ap (r.add (total_at_key r key_of elem_of slots k))
+      (laws.addition.monoid.right_identity (at slot) (at_sound slot good))
 
   -- a slot at the end, or a value added to the last slot
 
@@ -75,7 +83,8 @@ module _ {E : Type 0} {r : SemiringOn E} (laws : IsSemiring r) {size : ℕ} wher
         few = let long = length_push old slot in omega arith;
       })
 
-  pub put-same : (old front new : List (Slot E)) (held : Slot E) (key : ℕ) (elem sum : E) → AreLoose r size old → key < size → IsGood r elem
+  pub put-same : (old front new : List (Slot E)) (held : Slot E) (key : ℕ) (elem sum : E) → AreLoose r size old
+      → key < size → IsGood r elem
       → old ≡ front ++ held ∷ [] → held.key ≡ key → sum ≡ r.add held.elem elem
       → new ≡ front ++ record { key = key; elem = sum } ∷ [] → IsPut r size old new (alone r key elem)
   put-same old front new held key elem sum loose key_in good split at_key added is =
@@ -94,8 +103,10 @@ module _ {E : Type 0} {r : SemiringOn E} (laws : IsSemiring r) {size : ℕ} wher
             pushed-sum front slot k front_loose slot_good
             ∙ ap (λ e. r.add so_far (masked r (nat_eq key k) e)) added
             ∙ ap (r.add so_far) (only-mul laws.addition.monoid (nat_eq key k) held.elem elem)
-            ∙ sym (laws.addition.monoid.associative so_far (masked r (nat_eq key k) held.elem) (masked r (nat_eq key k) elem)
-            (loose-sound front k front_loose) (mask_is_sound laws key held.elem k held_good) (mask_is_sound laws key elem k good))
+            ∙ sym (laws.addition.monoid.associative so_far (masked r (nat_eq key k) held.elem)
+            (masked r (nat_eq key k) elem)
+            (loose-sound front k front_loose) (mask_is_sound laws key held.elem k held_good)
+            (mask_is_sound laws key elem k good))
             ∙ ap (λ e. r.add (r.add so_far e) (masked r (nat_eq key k) elem)) (sym held_at)
             ∙ ap (λ e. r.add e (masked r (nat_eq key k) elem)) (sym (pushed-sum front held k front_loose held_good))
             ∙ ap (λ l. r.add (total_at_key r key_of elem_of l k) (masked r (nat_eq key k) elem)) (sym split);
@@ -112,15 +123,18 @@ no_item [] none = refl
 no_item (x ∷ xs) none = absurd (omega arith)
 
 -- what is in the row, and the slots that are left, have the sums of all slots
-pub record IsGathering {E : Type 0} (r : SemiringOn E) (size : ℕ) (all : List (Slot E)) (row : List (Option E)) (left : List (Slot E)) : Type 0 where
+pub record IsGathering {E : Type 0} (r : SemiringOn E) (size : ℕ) (all : List (Slot E)) (row : List (Option E))
+    (left : List (Slot E)) : Type 0 where
   pub has_size : length row ≡ size
   pub row_is_good : IsGoodRow r row
   pub are_loose : AreLoose r size left
-  pub sums : (k : ℕ) → r.add (value_in_row r.zero row k) (total_at_key r key_of elem_of left k) ≡ total_at_key r key_of elem_of all k
+  pub sums : (k : ℕ) → r.add (value_in_row r.zero row k) (total_at_key r key_of elem_of left k) ≡ total_at_key r
+      key_of elem_of all k
   pub few : length (slots_from 0 row) + length left ≤ length all
 
 module _ {E : Type 0} {r : SemiringOn E} (laws : IsSemiring r) (size : ℕ) (all : List (Slot E)) where
-  pub gathering-start : (row : List (Option E)) → row ≡ replicate size None → AreLoose r size all → IsGathering r size all row all
+  pub gathering-start : (row : List (Option E)) → row ≡ replicate size None → AreLoose r size all
+      → IsGathering r size all row all
   gathering-start row empty loose = record {
     has_size = empty-length r size row empty;
     row_is_good = empty-IsGoodRow r size row empty;
@@ -130,10 +144,12 @@ module _ {E : Type 0} {r : SemiringOn E} (laws : IsSemiring r) (size : ℕ) (all
         ap (λ place. r.add (value_of r.zero place) sum)
         (ap (λ places. slice_index_or places k None) empty ∙ get_or-replicate_none E size k)
         ∙ laws.addition.monoid.left_identity sum (loose-sound laws all k loose);
-    few = let none = ap (λ places. length (slots_from 0 places)) empty ∙ ap length (slots_from-empty 0 size) in omega (arith, none);
+    few = let none = ap (λ places. length (slots_from 0 places)) empty
+        ∙ ap length (slots_from-empty 0 size) in omega (arith, none);
   }
 
-  pub gathering-step : (row new : List (Option E)) (before left : List (Slot E)) (slot : Slot E) → IsGathering r size all row before
+  pub gathering-step : (row new : List (Option E)) (before left : List (Slot E)) (slot : Slot E)
+      → IsGathering r size all row before
       → before ≡ left ++ slot ∷ [] → IsGathered r row new (alone r slot.key slot.elem)
       → length (slots_from 0 new) ≤ length (slots_from 0 row) + 1
       → IsGathering r size all new left
@@ -165,7 +181,8 @@ module _ {E : Type 0} {r : SemiringOn E} (laws : IsSemiring r) (size : ℕ) (all
             omega arith;
       }
 
-  module _ (row : List (Option E)) (left : List (Slot E)) (none : left ≡ []) (gathering : IsGathering r size all row left) where
+  module _ (row : List (Option E)) (left : List (Slot E)) (none : left ≡ [])
+      (gathering : IsGathering r size all row left) where
     pub gathering-fits : FitsSlots r 0 size (slots_from 0 row)
     gathering-fits = let long = gathering.has_size in fits-slots_from r 0 size row (omega arith) gathering.row_is_good
 

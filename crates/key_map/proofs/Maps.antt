@@ -1,5 +1,6 @@
 -- From a row in which values were gathered to the map of its slots.
-use Rattle.std.proofs.Common.{◌≡◌, ℕ, ◌+◌, ◌<◌, ◌≤◌, ◌≢◌, List, length, replicate, nat_eq, Option, None, sym, ap, subst, ◌∙◌, arith}
+use Rattle.std.proofs.Common.{◌≡◌, ℕ, ◌+◌, ◌<◌, ◌≤◌, ◌≢◌, List, length, replicate, nat_eq, Option, None, sym, ap}
+use Rattle.std.proofs.Common.{subst, ◌∙◌, arith}
 use Rattle.std.proofs.lemmas.List.{length-replicate}
 use Rattle.std.specs.Prelude.{slice_index_or}
 use Rattle.monoid_kit.specs.Items.{IsIn, AllElements}
@@ -11,7 +12,8 @@ use Rattle.key_map.specs.declared.slot.Slot.{Slot}
 use Rattle.key_map.specs.Convolution.{convolution}
 use Rattle.key_map.specs.Slots.{key_of, elem_of, value_in, product_at, products_at, FitsSlots, KeysAscend}
 use Rattle.key_map.specs.Rows.{value_of, IsGoodPlace, IsGoodRow, IsGathered, slots_from}
-use Rattle.key_map.proofs.Slots.{fits-keys, fits-good, fits-ascend, value_in-total, value_in-at_slot, value_in-absent, value_in-slots_from, fits-slots_from}
+use Rattle.key_map.proofs.Slots.{fits-keys, fits-good, fits-ascend, value_in-total, value_in-at_slot, value_in-absent}
+use Rattle.key_map.proofs.Slots.{value_in-slots_from, fits-slots_from}
 use Rattle.key_map.proofs.Rows.{get_or-replicate_none, gathered-same}
 use Rattle.key_map.proofs.Convolutions.{convolution-same, convolution_of_totals}
 
@@ -43,7 +45,8 @@ module _ {E : Type 0} {r : SemiringOn E} (laws : IsSemiring r) (size : ℕ) (row
       ∙ laws.addition.monoid.left_identity (added k) sound
 
 -- what is known of slots that a map keeps
-module _ {E : Type 0} (r : SemiringOn E) (size : ℕ) (kept given : List (Slot E)) (same : given ≡ kept) (fits : FitsSlots r 0 size kept) where
+module _ {E : Type 0} (r : SemiringOn E) (size : ℕ) (kept given : List (Slot E)) (same : given ≡ kept)
+    (fits : FitsSlots r 0 size kept) where
   pub keys-below : AllElements (λ key. key < size) key_of given
   keys-below slot slot_in = fits-keys r 0 size kept fits slot (subst (IsIn slot) same slot_in)
 
@@ -77,7 +80,8 @@ module _ {E : Type 0} {r : SemiringOn E} (laws : IsSemiring r) (size : ℕ) (a b
         → r.is_sound (products_at r times left b k)
     products-are_sound left left_in k =
         total-is_sound laws (λ right. product_at r times left right k) b
-        (λ right right_in. only-is_element laws.addition.monoid (nat_eq (times left.key right.key) k) (r.mul left.elem right.elem)
+        (λ right right_in. only-is_element laws.addition.monoid (nat_eq (times left.key right.key) k)
+        (r.mul left.elem right.elem)
         (laws.multiplication.product_is_element left.elem right.elem (a_sound left left_in) (b_sound right right_in)))
 
     -- over all left slots, it is the convolution
@@ -113,4 +117,5 @@ module _ {E : Type 0} {r : SemiringOn E} (laws : IsSemiring r) (size : ℕ) (a b
       let at_left = value_in-at_slot r 0 size a left a_fits left_in in
       let at_right = value_in-at_slot r 0 size b right b_fits right_in in
       subst (λ e. r.reach e + r.reach right.elem ≤ weight_bound) at_left
-      (subst (λ e. r.reach (value_in r.zero a left.key) + r.reach e ≤ weight_bound) at_right (add_up left.key right.key))
+      (subst (λ e. r.reach (value_in r.zero a left.key) + r.reach e ≤ weight_bound) at_right
+      (add_up left.key right.key))

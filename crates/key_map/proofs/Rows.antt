@@ -1,5 +1,7 @@
 -- Lemmas on rows in which values are gathered.
-use Rattle.std.proofs.Common.{◌≡◌, ℕ, zero, suc, ◌+◌, ◌<◌, ◌≤◌, List, [], ◌∷◌, ◌++◌, length, set, take, replicate, nat_eq, Option, Some, None, inl, inr, refl, sym, ap, subst, ◌∙◌, length-set, get_or-set_same, get_or-set_other}
+use Rattle.std.proofs.Common.{◌≡◌, ℕ, zero, suc, ◌+◌, ◌<◌, ◌≤◌, List, [], ◌∷◌, ◌++◌, length, set, take, replicate}
+use Rattle.std.proofs.Common.{nat_eq, Option, Some, None, inl, inr, refl, sym, ap, subst, ◌∙◌, length-set}
+use Rattle.std.proofs.Common.{get_or-set_same, get_or-set_other}
 use Rattle.std.specs.Prelude.{slice_index_or}
 use Rattle.std.proofs.lemmas.Bool.{cases_eq, eq-eqb, ne_eqb}
 use Rattle.std.proofs.lemmas.List.{take_more, take_all, get_or_read, set-set}
@@ -11,7 +13,8 @@ use Rattle.semiring_kit.specs.Total.{total, masked}
 use Rattle.semiring_kit.proofs.Sums.{total-is_sound, zero_is_good, add_is_good}
 use Rattle.key_map.specs.Rows.{value_of, value_in_row, IsGoodPlace, IsGoodRow, IsGathered}
 
-pub get_or-replicate_none : (E : Type 0) (size k : ℕ) → slice_index_or (replicate {A = Option E} size None) k None ≡ None
+pub get_or-replicate_none : (E : Type 0) (size k : ℕ)
+    → slice_index_or (replicate {A = Option E} size None) k None ≡ None
 get_or-replicate_none E zero k = refl
 get_or-replicate_none E (suc size) zero = refl
 get_or-replicate_none E (suc size) (suc k) = get_or-replicate_none E size k
@@ -45,7 +48,8 @@ module _ {E : Type 0} {r : SemiringOn E} (laws : IsSemiring r) where
       | inr other ↦
           ap (value_of r.zero) (get_or-set_other row key k (Some value) None other)
           ∙ sym (laws.addition.monoid.right_identity (value_in_row r.zero row k) (row_is_sound row k good))
-          ∙ ap (λ t. r.add (value_in_row r.zero row k) (masked r t elem)) (sym (ne_eqb key k (λ same. other (sym same))))
+          ∙ ap (λ t. r.add (value_in_row r.zero row k) (masked r t elem))
+          (sym (ne_eqb key k (λ same. other (sym same))))
     ];
   }
 
@@ -60,10 +64,12 @@ module _ {E : Type 0} {r : SemiringOn E} (laws : IsSemiring r) where
       → IsGathered r row (set (set row key left) key (Some value)) (λ k. masked r (nat_eq key k) elem)
   gathered-take row key taken left value elem in_row good elem_good read sum =
       let place : taken ≡ slice_index_or row key None = get_or_read row key taken in_row read None in
-      let held : value ≡ r.add (value_in_row r.zero row key) elem = sum ∙ ap (λ p. r.add (value_of r.zero p) elem) place in
+      let held : value ≡ r.add (value_in_row r.zero row key) elem = sum
+      ∙ ap (λ p. r.add (value_of r.zero p) elem) place in
       let value_good : IsGood r value =
       subst (IsGood r) (sym held)
-      (add_is_good laws (value_in_row r.zero row key) elem (place_is_good (slice_index_or row key None) (good key)) elem_good) in
+      (add_is_good laws (value_in_row r.zero row key) elem (place_is_good (slice_index_or row key None) (good key))
+      elem_good) in
       subst (λ new. IsGathered r row new (λ k. masked r (nat_eq key k) elem)) (sym (set-set row key left (Some value)))
       (gathered-set row key value elem in_row good value_good elem_good.sound held)
 
@@ -104,11 +110,13 @@ module _ {E : Type 0} {r : SemiringOn E} (laws : IsSemiring r) where
     values = λ k.
         second.values k
         ∙ ap (λ a. r.add a (g k)) (first.values k)
-        ∙ laws.addition.monoid.associative (value_in_row r.zero old k) (f k) (g k) (row_is_sound old k good) (f_sound k) (g_sound k);
+        ∙ laws.addition.monoid.associative (value_in_row r.zero old k) (f k) (g k) (row_is_sound old k good)
+        (f_sound k) (g_sound k);
   }
 
   -- a loop over a list: what the items so far add, and then the next item
-  pub gathered-more : {X : Type 0} (added : X → ℕ → E) (xs : List X) (i : ℕ) (x : X) (g : ℕ → E) (old mid new : List (Option E))
+  pub gathered-more : {X : Type 0} (added : X → ℕ → E) (xs : List X) (i : ℕ) (x : X) (g : ℕ → E)
+      (old mid new : List (Option E))
       → IsGoodRow r old → ((y : X) → IsIn y xs → (k : ℕ) → r.is_sound (added y k))
       → i < length xs → x ≡ slice_index_or xs i x → ((k : ℕ) → g k ≡ added x k)
       → IsGathered r old mid (λ k. total r (λ y. added y k) (take i xs)) → IsGathered r mid new g
@@ -127,12 +135,18 @@ module _ {E : Type 0} {r : SemiringOn E} (laws : IsSemiring r) where
       so_far : (k : ℕ) → r.is_sound (total r (λ y. added y k) (take i xs))
       so_far k = total-is_sound laws (λ y. added y k) (take i xs) (λ y y_in. sound y (IsIn-take i xs y y_in) k)
 
-      more : (k : ℕ) → r.add (total r (λ y. added y k) (take i xs)) (added x k) ≡ total r (λ y. added y k) (take (i + 1) xs)
+      more : (k : ℕ) → r.add (total r (λ y. added y k) (take i xs)) (added x k) ≡ total r (λ y. added y k)
+          (take (i + 1) xs)
       more k =
-          ap (r.add (total r (λ y. added y k) (take i xs))) (sym (laws.addition.monoid.right_identity (added x k) (here k)))
+          ap (r.add (total r (λ y. added y k) (take i xs)))
+          (sym (laws.addition.monoid.right_identity (added x k) (here k)))
           ∙ sym (product_by-append laws.addition.monoid (λ y. added y k) (take i xs) (x ∷ [])
           (λ y y_in. sound y (IsIn-take i xs y y_in) k)
-          (λ y y_in. elim y_in [ inl same ↦ subst (λ z. r.is_sound (added z k)) (sym same) (here k) | inr none ↦ absurd none ]))
+          (λ y y_in. elim y_in [
+            | inl same ↦ subst (λ z. r.is_sound (added z k)) (sym same) (here k)
+            | inr none ↦
+                absurd none
+          ]))
           ∙ ap (λ ys. total r (λ y. added y k) ys)
           (ap (λ y. take i xs ++ y ∷ []) is ∙ sym (take_more xs i x in_xs))
 

@@ -45,10 +45,12 @@ module _ {E : Type 0} (slots : List (Slot E)) (key place : ℕ) where
       elim (cases_lt there.0 place) [
         | inl before ↦
             let less : key_of (slice_index_or slots there.0 slot) < key =
-            ranked (key_of (slice_index_or slots there.0 slot)) key Less (sym (parts.0 there.0 slot (omega arith) before)) in
+            ranked (key_of (slice_index_or slots there.0 slot)) key Less
+            (sym (parts.0 there.0 slot (omega arith) before)) in
             absurd (omega arith)
         | inr after ↦
             let greater : key < key_of (slice_index_or slots there.0 slot) =
-            ranked (key_of (slice_index_or slots there.0 slot)) key Greater (sym (parts.1 there.0 slot after there.1)) in
+            ranked (key_of (slice_index_or slots there.0 slot)) key Greater
+            (sym (parts.1 there.0 slot after there.1)) in
             absurd (omega arith)
       ]

@@ -1,6 +1,7 @@
 -- The products of one key and its value with the slots of a map: their sums by key are the convolution of the map that
 -- has this value alone.
-use Rattle.std.proofs.Common.{◌≡◌, ℕ, ◌+◌, ◌<◌, ◌≤◌, List, [], ◌∷◌, ◌++◌, length, take, nat_eq, inl, inr, refl, sym, ap, subst, ◌∙◌, arith, length-append}
+use Rattle.std.proofs.Common.{◌≡◌, ℕ, ◌+◌, ◌<◌, ◌≤◌, List, [], ◌∷◌, ◌++◌, length, take, nat_eq, inl, inr, refl, sym}
+use Rattle.std.proofs.Common.{ap, subst, ◌∙◌, arith, length-append}
 use Rattle.std.specs.Prelude.{slice_index_or}
 use Rattle.std.proofs.lemmas.Bool.{eq-eqb}
 use Rattle.std.proofs.lemmas.List.{take_more, take_all}
@@ -24,13 +25,16 @@ abbrev pub shift_at : {E : Type 0} → SemiringOn E → (ℕ → ℕ → ℕ) �
 shift_at r times key elem slot k = masked r (nat_eq (times key slot.key) k) (r.mul elem slot.elem)
 
 -- the loose slots are the products with the first slots
-pub record IsShifting {E : Type 0} (r : SemiringOn E) (size : ℕ) (times : ℕ → ℕ → ℕ) (key : ℕ) (elem : E) (done slots : List (Slot E)) : Type 0 where
+pub record IsShifting {E : Type 0} (r : SemiringOn E) (size : ℕ) (times : ℕ → ℕ → ℕ) (key : ℕ) (elem : E)
+    (done slots : List (Slot E)) : Type 0 where
   pub are_loose : AreLoose r size slots
   pub sums : (k : ℕ) → total_at_key r key_of elem_of slots k ≡ total r (λ slot. shift_at r times key elem slot k) done
   pub few : length slots ≤ length done
 
-module _ {E : Type 0} {r : SemiringOn E} (laws : IsSemiring r) {size unit : ℕ} {times : ℕ → ℕ → ℕ} (monoid : IsMonoid size unit times)
-    (key : ℕ) (elem : E) (map : List (Slot E)) (key_in : key < size) (good : IsGood r elem) (fits : FitsSlots r 0 size map)
+module _ {E : Type 0} {r : SemiringOn E} (laws : IsSemiring r) {size unit : ℕ} {times : ℕ → ℕ → ℕ}
+    (monoid : IsMonoid size unit times)
+    (key : ℕ) (elem : E) (map : List (Slot E)) (key_in : key < size) (good : IsGood r elem)
+    (fits : FitsSlots r 0 size map)
     (add_up : ReachesAddUp r (alone r key elem) (value_in r.zero map)) where
   pub shift-reach : (slot : Slot E) → IsIn slot map → r.reach elem + r.reach slot.elem ≤ weight_bound
   shift-reach slot slot_in =
@@ -56,7 +60,8 @@ module _ {E : Type 0} {r : SemiringOn E} (laws : IsSemiring r) {size unit : ℕ}
       → IsShifting r size times key elem (take (i + 1) map) after
   shifting-more i slot product before after within is made shifting put =
       let slot_in = IsIn-read map i slot within is in
-      let split : take (i + 1) map ≡ take i map ++ slot ∷ [] = take_more map i slot within ∙ ap (λ s. take i map ++ s ∷ []) (sym is) in
+      let split : take (i + 1) map ≡ take i map ++ slot ∷ [] = take_more map i slot within
+      ∙ ap (λ s. take i map ++ s ∷ []) (sym is) in
       record {
         are_loose = put.are_loose;
         sums = λ k.
@@ -68,7 +73,10 @@ module _ {E : Type 0} {r : SemiringOn E} (laws : IsSemiring r) {size unit : ℕ}
             ∙ ap (r.add so_far) (sym (laws.addition.monoid.right_identity (at slot) (shift-sound slot slot_in k)))
             ∙ sym (product_by-append laws.addition.monoid at (take i map) (slot ∷ [])
             (λ s s_in. shift-sound s (IsIn-take i map s s_in) k)
-            (λ s s_in. elim s_in [ inl same ↦ subst (λ z. r.is_sound (at z)) (sym same) (shift-sound slot slot_in k) | inr none ↦ absurd none ]))
+            (λ s s_in. elim s_in [
+              | inl same ↦ subst (λ z. r.is_sound (at z)) (sym same) (shift-sound slot slot_in k)
+              | inr none ↦ absurd none
+            ]))
             ∙ ap (total r at) (sym split);
         few =
             let long = ap length split in
@@ -91,15 +99,21 @@ module _ {E : Type 0} {r : SemiringOn E} (laws : IsSemiring r) {size unit : ℕ}
       sym (laws.addition.monoid.right_identity shifts
       (total-is_sound laws (λ slot. shift_at r times key elem slot k) map (λ slot slot_in. shift-sound slot slot_in k)))
       ∙ sym (convolution_of_totals laws size times key_of elem_of one key_of elem_of map k
-      (λ s s_in. elim s_in [ inl same ↦ subst (λ z. r.is_sound (elem_of z)) (sym same) good.sound | inr none ↦ absurd none ])
+      (λ s s_in. elim s_in [
+        | inl same ↦ subst (λ z. r.is_sound (elem_of z)) (sym same) good.sound
+        | inr none ↦ absurd
+            none
+      ])
       (λ s s_in. elim s_in [ inl same ↦ subst (λ z. key_of z < size) (sym same) key_in | inr none ↦ absurd none ])
       sound (fits-keys r 0 size map fits))
       ∙ convolution-same r size times (total_at_key r key_of elem_of one) (alone r key elem)
       (total_at_key r key_of elem_of map) (value_in r.zero map) k
-      (λ j. laws.addition.monoid.right_identity (alone r key elem j) (masked_is_good laws (nat_eq key j) elem good).sound)
+      (λ j. laws.addition.monoid.right_identity (alone r key elem j)
+      (masked_is_good laws (nat_eq key j) elem good).sound)
       (λ j. sym (value_in-total laws 0 size map j fits))
 
-  pub shifting-all : (i : ℕ) (slots : List (Slot E)) → length map ≤ i → IsShifting r size times key elem (take i map) slots → (k : ℕ)
+  pub shifting-all : (i : ℕ) (slots : List (Slot E)) → length map ≤ i
+      → IsShifting r size times key elem (take i map) slots → (k : ℕ)
       → total_at_key r key_of elem_of slots k ≡ convolution r size times (alone r key elem) (value_in r.zero map) k
   shifting-all i slots past shifting k =
       shifting.sums k

@@ -1,5 +1,7 @@
 -- Lemmas on lists of slots that fit: their sums by key, and the slots that a row gives.
-use Rattle.std.proofs.Common.{◌≡◌, ℕ, zero, suc, ◌+◌, ◌<◌, ◌≤◌, ◌≢◌, Bool, true, false, List, [], ◌∷◌, ◌++◌, length, nat_eq, cond, set, replicate, Option, Some, None, inl, inr, refl, sym, ap, subst, ◌∙◌, arith}
+use Rattle.std.proofs.Common.{◌≡◌, ℕ, zero, suc, ◌+◌, ◌<◌, ◌≤◌, ◌≢◌, Bool, true, false, List, [], ◌∷◌, ◌++◌, length}
+use Rattle.std.proofs.Common.{nat_eq, cond, set, replicate, Option, Some, None, inl, inr, refl, sym, ap, subst, ◌∙◌}
+use Rattle.std.proofs.Common.{arith}
 use Rattle.std.proofs.lemmas.List.{append-nil, set-set}
 use Rattle.std.specs.Prelude.{slice_index_or}
 use Rattle.std.proofs.lemmas.Bool.{eqb-true, eq-eqb, ne_eqb}
@@ -26,14 +28,16 @@ module _ {E : Type 0} where
       ∙ ap (λ k. slots_from (low + 1) row ++ slots_from k (place ∷ [])) (omega arith))
 
   -- one more place, with a value or without
-  pub slots_from-push_some : (row : List (Option E)) (place : Option E) (before after : List (Slot E)) (key : ℕ) (elem : E)
+  pub slots_from-push_some : (row : List (Option E)) (place : Option E) (before after : List (Slot E)) (key : ℕ)
+      (elem : E)
       → before ≡ slots_from 0 row → key ≡ length row → place ≡ Some elem
       → after ≡ before ++ record { key = key; elem = elem } ∷ []
       → after ≡ slots_from 0 (row ++ place ∷ [])
   slots_from-push_some row place before after key elem kept count is pushed =
       pushed
       ∙ ap (λ slots. slots ++ record { key = key; elem = elem } ∷ []) kept
-      ∙ ap (λ k. slots_from 0 row ++ record { key = k; elem = elem } ∷ []) (let e : key ≡ 0 + length row = omega arith in e)
+      ∙ ap (λ k. slots_from 0 row ++ record { key = k; elem = elem } ∷ [])
+      (let e : key ≡ 0 + length row = omega arith in e)
       ∙ sym (slots_from-push 0 row (Some elem))
       ∙ ap (λ p. slots_from 0 (row ++ p ∷ [])) (sym is)
 
@@ -68,7 +72,8 @@ module _ {E : Type 0} where
       (slots_from-set 0 row key (Some value))
 
 module _ {E : Type 0} (r : SemiringOn E) where
-  pub fits-lower : (low mid high : ℕ) (slots : List (Slot E)) → low ≤ mid → FitsSlots r mid high slots → FitsSlots r low high slots
+  pub fits-lower : (low mid high : ℕ) (slots : List (Slot E)) → low ≤ mid → FitsSlots r mid high slots
+      → FitsSlots r low high slots
   fits-lower low mid high [] below fits = tt
   fits-lower low mid high (slot ∷ slots) below fits =
       let above : mid ≤ slot.key = fits.0 in
@@ -101,7 +106,8 @@ module _ {E : Type 0} (r : SemiringOn E) where
         omega arith
   ]
 
-  pub value_in-at_slot : (low high : ℕ) (slots : List (Slot E)) (slot : Slot E) → FitsSlots r low high slots → IsIn slot slots
+  pub value_in-at_slot : (low high : ℕ) (slots : List (Slot E)) (slot : Slot E) → FitsSlots r low high slots
+      → IsIn slot slots
       → value_in r.zero slots slot.key ≡ slot.elem
   value_in-at_slot low high [] slot fits slot_in = absurd slot_in
   value_in-at_slot low high (first ∷ slots) slot fits slot_in = elim slot_in [
@@ -110,7 +116,8 @@ module _ {E : Type 0} (r : SemiringOn E) where
         ∙ ap elem_of (sym same)
     | inr later ↦
         let past : first.key + 1 ≤ slot.key = fits-above (first.key + 1) high slots fits.2.1 slot later in
-        ap (λ t. cond t first.elem (value_in r.zero slots slot.key)) (ne_eqb first.key slot.key (λ same. absurd (omega arith)))
+        ap (λ t. cond t first.elem (value_in r.zero slots slot.key))
+        (ne_eqb first.key slot.key (λ same. absurd (omega arith)))
         ∙ value_in-at_slot (first.key + 1) high slots slot fits.2.1 later
   ]
 

@@ -8,7 +8,8 @@ use Rattle.key_map.specs.declared.merge.Source.TheVariants.{Left, Right, Both}
 -- of two slots the one with the lesser key, or, at one key, the slot with the sum
 abbrev pub lesser_slot : {E : Type 0} → SemiringOn E → Slot E → Slot E → Slot E
 lesser_slot r x y =
-    if nat_lt x.key y.key then x else (if nat_lt y.key x.key then y else record { key = x.key; elem = r.add x.elem y.elem })
+    if nat_lt x.key y.key then x else
+    (if nat_lt y.key x.key then y else record { key = x.key; elem = r.add x.elem y.elem })
 
 -- the slot with the least key of both lists, whose keys ascend
 abbrev pub least_slot : {E : Type 0} → SemiringOn E → List (Slot E) → List (Slot E) → Option (Slot E)

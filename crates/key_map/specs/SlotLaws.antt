@@ -19,7 +19,8 @@ module _ {E : Type 0} {r : SemiringOn E} (laws : IsSemiring r) where
       (value_in_is_good (slot.key + 1) high slots k fits.2.1)
 
 module _ {E : Type 0} (r : SemiringOn E) where
-  pub few_slots : (low high : ℕ) (slots : List (Slot E)) → low ≤ high → FitsSlots r low high slots → length slots ≤ high - low
+  pub few_slots : (low high : ℕ) (slots : List (Slot E)) → low ≤ high → FitsSlots r low high slots
+      → length slots ≤ high - low
   few_slots low high [] ordered fits = omega arith
   few_slots low high (slot ∷ slots) ordered fits =
       let above : low ≤ slot.key = fits.0 in

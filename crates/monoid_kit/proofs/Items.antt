@@ -1,5 +1,6 @@
 -- Lemmas on the items of lists.
-use Rattle.std.proofs.Common.{◌≡◌, ℕ, zero, suc, ◌<◌, Bool, true, false, List, [], ◌∷◌, ◌++◌, length, get_or, take, map, cond, inl, inr, refl, sym, subst, arith}
+use Rattle.std.proofs.Common.{◌≡◌, ℕ, zero, suc, ◌<◌, Bool, true, false, List, [], ◌∷◌, ◌++◌, length, get_or, take}
+use Rattle.std.proofs.Common.{map, cond, inl, inr, refl, sym, subst, arith}
 use Rattle.std.specs.List.{filter, flat_map}
 use Rattle.monoid_kit.specs.Items.{IsIn, AllElements}
 

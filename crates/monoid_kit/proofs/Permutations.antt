@@ -1,5 +1,6 @@
 -- The product of a list in a commutative monoid is that of each list with the same items in another order.
-use Rattle.std.proofs.Common.{◌≡◌, ℕ, zero, suc, ◌<◌, List, [], ◌∷◌, length, get_or, refl, sym, ap, ◌∙◌, arith, inl, inr}
+use Rattle.std.proofs.Common.{◌≡◌, ℕ, zero, suc, ◌<◌, List, [], ◌∷◌, length, get_or, refl, sym, ap, ◌∙◌, arith, inl}
+use Rattle.std.proofs.Common.{inr}
 use Rattle.std.proofs.Math.ListN.{set}
 use Rattle.std.proofs.lemmas.Bool.{cases_eq, cases_lt}
 use Rattle.std.proofs.lemmas.List.{set_comm, set-set, set-get_or}
@@ -10,7 +11,8 @@ use Rattle.monoid_kit.specs.Monoid.{IsCommutativeMonoidOn}
 use Rattle.monoid_kit.specs.Product.{product_by}
 use Rattle.monoid_kit.proofs.Products.{product_by-is_element}
 
-module _ {E : Type 0} {is_element : E → Type 0} {unit : E} {mul : E → E → E} (abelian : IsCommutativeMonoidOn is_element unit mul)
+module _ {E : Type 0} {is_element : E → Type 0} {unit : E} {mul : E → E → E}
+    (abelian : IsCommutativeMonoidOn is_element unit mul)
     {X : Type 0} (f : X → E) (elements : (x : X) → is_element (f x)) where
   product : List X → E
   product xs = product_by unit mul f xs
@@ -29,9 +31,11 @@ module _ {E : Type 0} {is_element : E → Type 0} {unit : E} {mul : E → E → 
       → mul (f (get_or xs j d)) (product (set xs j x)) ≡ mul (f x) (product xs)
   unfolding product
   product-set [] j x d within = absurd (omega arith)
-  product-set (y ∷ ys) zero x d within = left_commutative (f y) (f x) (product ys) (elements y) (elements x) (product-element ys)
+  product-set (y ∷ ys) zero x d within = left_commutative (f y) (f x) (product ys) (elements y) (elements x)
+      (product-element ys)
   product-set (y ∷ ys) (suc j) x d within =
-      left_commutative (f (get_or ys j d)) (f y) (product (set ys j x)) (elements (get_or ys j d)) (elements y) (product-element (set ys j x))
+      left_commutative (f (get_or ys j d)) (f y) (product (set ys j x)) (elements (get_or ys j d)) (elements y)
+      (product-element (set ys j x))
       ∙ ap (mul (f y)) (product-set ys j x d (omega arith))
       ∙ left_commutative (f y) (f x) (product ys) (elements y) (elements x) (product-element ys)
 
@@ -41,7 +45,8 @@ module _ {E : Type 0} {is_element : E → Type 0} {unit : E} {mul : E → E → 
   product-exchange [] i j d order within = absurd (omega arith)
   product-exchange (x ∷ xs) i zero d order within = absurd (omega arith)
   product-exchange (x ∷ xs) zero (suc j) d order within = product-set xs j x d (omega arith)
-  product-exchange (x ∷ xs) (suc i) (suc j) d order within = ap (mul (f x)) (product-exchange xs i j d (omega arith) (omega arith))
+  product-exchange (x ∷ xs) (suc i) (suc j) d order within = ap (mul (f x))
+      (product-exchange xs i j d (omega arith) (omega arith))
 
   product-swap : (xs : List X) (i j : ℕ) → i < length xs → j < length xs → product (swap xs i j) ≡ product xs
   product-swap [] i j i_in j_in = refl

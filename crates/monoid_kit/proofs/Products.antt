@@ -25,7 +25,8 @@ module _ {E : Type 0} (unit : E) (mul : E → E → E) where
 
 -- of a monoid
 
-module _ {E : Type 0} {is_element : E → Type 0} {unit : E} {mul : E → E → E} (monoid : IsMonoidOn is_element unit mul) where
+module _ {E : Type 0} {is_element : E → Type 0} {unit : E} {mul : E → E → E}
+    (monoid : IsMonoidOn is_element unit mul) where
   pub product_by-is_element : {X : Type 0} (f : X → E) (xs : List X)
       → AllElements is_element f xs → is_element (product_by unit mul f xs)
   product_by-is_element f [] elements = monoid.unit_is_element
@@ -38,7 +39,8 @@ module _ {E : Type 0} {is_element : E → Type 0} {unit : E} {mul : E → E → 
       → fold (λ product x. mul product (f x)) front xs ≡ mul front (product_by unit mul f xs)
   product_from_left-onto f [] front front_in elements = sym (monoid.right_identity front front_in)
   product_from_left-onto f (x ∷ xs) front front_in elements =
-      product_from_left-onto f xs (mul front (f x)) (monoid.product_is_element front (f x) front_in (elements x (inl refl)))
+      product_from_left-onto f xs (mul front (f x))
+      (monoid.product_is_element front (f x) front_in (elements x (inl refl)))
       (λ y y_in. elements y (inr y_in))
       ∙ monoid.associative front (f x) (product_by unit mul f xs) front_in (elements x (inl refl))
       (product_by-is_element f xs (λ y y_in. elements y (inr y_in)))
@@ -119,7 +121,8 @@ module _ {E : Type 0} {is_element : E → Type 0} {unit : E} {mul : E → E → 
 
 -- of a commutative monoid
 
-module _ {E : Type 0} {is_element : E → Type 0} {unit : E} {mul : E → E → E} (abelian : IsCommutativeMonoidOn is_element unit mul) where
+module _ {E : Type 0} {is_element : E → Type 0} {unit : E} {mul : E → E → E}
+    (abelian : IsCommutativeMonoidOn is_element unit mul) where
   pub mul_middle : (a b c d : E) → is_element a → is_element b → is_element c → is_element d
       → mul (mul a b) (mul c d) ≡ mul (mul a c) (mul b d)
   mul_middle a b c d a_in b_in c_in d_in =
@@ -135,7 +138,8 @@ module _ {E : Type 0} {is_element : E → Type 0} {unit : E} {mul : E → E → 
       → product_by unit mul (λ x. mul (f x) (g x)) xs ≡ mul (product_by unit mul f xs) (product_by unit mul g xs)
   product_by-mul f g [] f_elements g_elements = sym (abelian.monoid.left_identity unit abelian.monoid.unit_is_element)
   product_by-mul f g (x ∷ xs) f_elements g_elements =
-      ap (mul (mul (f x) (g x))) (product_by-mul f g xs (λ y y_in. f_elements y (inr y_in)) (λ y y_in. g_elements y (inr y_in)))
+      ap (mul (mul (f x) (g x)))
+      (product_by-mul f g xs (λ y y_in. f_elements y (inr y_in)) (λ y y_in. g_elements y (inr y_in)))
       ∙ mul_middle (f x) (g x) (product_by unit mul f xs) (product_by unit mul g xs)
       (f_elements x (inl refl)) (g_elements x (inl refl))
       (product_by-is_element abelian.monoid f xs (λ y y_in. f_elements y (inr y_in)))

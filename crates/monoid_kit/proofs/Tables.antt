@@ -1,10 +1,12 @@
 -- Tables of products: their cells are elements, and a table breaks no law exactly where it is a monoid.
-use Rattle.std.proofs.Common.{◌≡◌, ℕ, ◌+◌, ◌*◌, ◌<◌, eqb, not, Bool, true, false, List, [], ◌∷◌, Some, None, get_or, inl, inr, refl, sym, subst, ap, ◌∙◌, arith}
+use Rattle.std.proofs.Common.{◌≡◌, ℕ, ◌+◌, ◌*◌, ◌<◌, eqb, not, Bool, true, false, List, [], ◌∷◌, Some, None, get_or}
+use Rattle.std.proofs.Common.{inl, inr, refl, sym, subst, ap, ◌∙◌, arith}
 use Rattle.std.specs.List.{find}
 use Rattle.std.proofs.lemmas.Bool.{not-false, not_from_true, not_from_false, eqb-true, eq-eqb, ne_eqb}
 use Rattle.std.proofs.lemmas.Nat.{mul-add-lt}
 use Rattle.monoid_kit.specs.declared.checks.TableFault.TheVariants.{UnitFails, NotAssociative}
-use Rattle.monoid_kit.specs.FirstBad.{elements, unit_fails, is_not_associative, first_bad, first_unit_failure, first_triple}
+use Rattle.monoid_kit.specs.FirstBad.{elements, unit_fails, is_not_associative, first_bad, first_unit_failure}
+use Rattle.monoid_kit.specs.FirstBad.{first_triple}
 use Rattle.monoid_kit.specs.Items.{IsIn, pairs}
 use Rattle.monoid_kit.specs.Monoid.{IsMonoid}
 use Rattle.monoid_kit.specs.Table.{PlainTable, IsTable, table_mul}
@@ -60,7 +62,8 @@ module _ (t : PlainTable) (table : IsTable t) where
       → x < t.size → unit_fails t x left ≡ false
   unit_kept none x left left_in below =
       finds.find-is_none (unit_fails t x) (true ∷ false ∷ [])
-      (finds.find-pairs_none (λ p. unit_fails t p.0 p.1) (true ∷ false ∷ []) (elements t) none x (IsIn-elements x below))
+      (finds.find-pairs_none (λ p. unit_fails t p.0 p.1) (true ∷ false ∷ []) (elements t) none x
+      (IsIn-elements x below))
       left left_in
 
   associates : first_triple t ≡ None → (a b c : ℕ) → a < t.size → b < t.size → c < t.size
@@ -81,14 +84,16 @@ module _ (t : PlainTable) (table : IsTable t) where
     left_identity = λ a a_in. test-is (table_mul t t.unit a) a (unit_kept kept a true (inl refl) a_in);
     right_identity = λ a a_in. test-is (table_mul t a t.unit) a (unit_kept kept a false (inr (inl refl)) a_in);
     associative = λ a b c a_in b_in c_in.
-        test-is (table_mul t (table_mul t a b) c) (table_mul t a (table_mul t b c)) (associates associative a b c a_in b_in c_in);
+        test-is (table_mul t (table_mul t a b) c) (table_mul t a (table_mul t b c))
+        (associates associative a b c a_in b_in c_in);
   }
 
   pub first_bad-IsMonoid : first_bad t ≡ None → IsMonoid t.size t.unit (table_mul t)
   first_bad-IsMonoid none =
       table_mul-IsMonoid
       (finds.option_map-is_none (λ p. UnitFails p.0 p.1) (first_unit_failure t) (finds.option_or-first_none _ _ none))
-      (finds.option_map-is_none (λ p. NotAssociative p.0 p.1.0 p.1.1) (first_triple t) (finds.option_or-second_none _ _ none))
+      (finds.option_map-is_none (λ p. NotAssociative p.0 p.1.0 p.1.1) (first_triple t)
+      (finds.option_or-second_none _ _ none))
 
   module _ (monoid : IsMonoid t.size t.unit (table_mul t)) where
     keeps_unit : (x : ℕ) (left : Bool) → x < t.size → unit_fails t x left ≡ false
@@ -102,7 +107,8 @@ module _ (t : PlainTable) (table : IsTable t) where
 
     no_triple : first_triple t ≡ None
     no_triple =
-        finds.find-range_pairs_nowhere (λ p. is_not_associative t p.0 p.1.0 p.1.1) t.size (pairs (elements t) (elements t))
+        finds.find-range_pairs_nowhere (λ p. is_not_associative t p.0 p.1.0 p.1.1) t.size
+        (pairs (elements t) (elements t))
         (λ a a_in. finds.find-range_pairs_nowhere (λ p. is_not_associative t a p.0 p.1) t.size (elements t)
         (λ b b_in. finds.find-range_nowhere (is_not_associative t a b) t.size
         (λ c c_in. is-test (table_mul t (table_mul t a b) c) (table_mul t a (table_mul t b c))

@@ -17,7 +17,8 @@ key_of-is_key (c ∷ cs) (d ∷ ds) are =
     subst (λ size. d * key_count cs + key_of cs ds < size) (mul_comm (key_count cs) (component_size c))
     (mul-add-lt d (key_count cs) (key_of cs ds) (component_size c) are.0 (key_of-is_key cs ds are.1))
 
-pub digits-key_of : (parts : List PlainComponent) (ds : List ℕ) → AreDigits parts ds → digits parts (key_of parts ds) ≡ ds
+pub digits-key_of : (parts : List PlainComponent) (ds : List ℕ) → AreDigits parts ds
+    → digits parts (key_of parts ds) ≡ ds
 digits-key_of [] [] are = refl
 digits-key_of [] (d ∷ ds) are = absurd are
 digits-key_of (c ∷ cs) [] are = absurd are

@@ -1,5 +1,6 @@
 -- Lemmas on the components from a place on.
-use Rattle.std.proofs.Common.{◌≡◌, ℕ, zero, suc, ◌+◌, ◌*◌, ◌/◌, ◌%◌, ◌<◌, ◌≤◌, ◌^◌, List, [], ◌∷◌, length, get_or, drop, refl, sym, ap, ◌∙◌, add-one, drop-cons, arith}
+use Rattle.std.proofs.Common.{◌≡◌, ℕ, zero, suc, ◌+◌, ◌*◌, ◌/◌, ◌%◌, ◌<◌, ◌≤◌, ◌^◌, List, [], ◌∷◌, length, get_or}
+use Rattle.std.proofs.Common.{drop, refl, sym, ap, ◌∙◌, add-one, drop-cons, arith}
 use Rattle.std.proofs.Math.Nat.{pow-succ', mod-eq_of_lt, mul_comm, add_comm, div-div-eq-div-mul}
 use Rattle.std.proofs.lemmas.Nat.{mul-le, mul-add-lt, mod_below}
 use Rattle.monoid_product.specs.declared.component.Component.{Component}
@@ -49,36 +50,39 @@ drop-item parts k c in_range is =
     ∙ ap (λ x. x ∷ drop (suc k) parts) (sym is)
     ∙ ap (λ j. c ∷ drop j parts) (sym (add-one k))
 
-module _ (parts : List Component) (k : ℕ) (c : Component) (in_range : k < length parts) (is : c ≡ get_or parts k c) where
-  pub keys_of-item : keys_of (drop k parts) ≡ size_of c * keys_of (drop (k + 1) parts)
-  keys_of-item = ap keys_of (drop-item parts k c in_range is)
+module _ (parts : List Component) (k : ℕ) (c : Component) (in_range : k < length parts) (is : c ≡ get_or parts k c)
+  where
+    pub keys_of-item : keys_of (drop k parts) ≡ size_of c * keys_of (drop (k + 1) parts)
+    keys_of-item = ap keys_of (drop-item parts k c in_range is)
 
-  pub keys_of-more : (keys : ℕ) → keys * keys_of (drop k parts) ≡ keys_of parts
-      → keys * size_of c * keys_of (drop (k + 1) parts) ≡ keys_of parts
-  keys_of-more keys so_far =
-      sym (times-regroup keys (size_of c) (keys_of (drop (k + 1) parts)))
-      ∙ ap (λ m. keys * m) (sym keys_of-item) ∙ so_far
+    pub keys_of-more : (keys : ℕ) → keys * keys_of (drop k parts) ≡ keys_of parts
+        → keys * size_of c * keys_of (drop (k + 1) parts) ≡ keys_of parts
+    keys_of-more keys so_far =
+        sym (times-regroup keys (size_of c) (keys_of (drop (k + 1) parts)))
+        ∙ ap (λ m. keys * m) (sym keys_of-item) ∙ so_far
 
-  pub keys_of-more_within : (keys : ℕ) → keys * keys_of (drop k parts) ≡ keys_of parts
-      → keys * size_of c ≤ keys_of parts
-  keys_of-more_within keys so_far =
-      (let le = at_most_times (keys * size_of c) (keys_of (drop (k + 1) parts)) (keys_of-some (drop (k + 1) parts)) in
-      let all = keys_of-more keys so_far in omega arith)
+    pub keys_of-more_within : (keys : ℕ) → keys * keys_of (drop k parts) ≡ keys_of parts
+        → keys * size_of c ≤ keys_of parts
+    keys_of-more_within keys so_far =
+        (let le = at_most_times (keys * size_of c) (keys_of (drop (k + 1) parts)) (keys_of-some (drop (k + 1) parts)) in
+        let all = keys_of-more keys so_far in omega arith)
 
-  abbrev units_from : ℕ → ℕ
-  units_from j = product_unit (plain_components (drop j parts))
+    abbrev units_from : ℕ → ℕ
+    units_from j = product_unit (plain_components (drop j parts))
 
-  units_from-item : units_from k ≡ component_unit (plain_component c) * keys_of (drop (k + 1) parts) + units_from (k + 1)
-  units_from-item = ap (λ xs. product_unit (plain_components xs)) (drop-item parts k c in_range is)
+    units_from-item : units_from k ≡ component_unit (plain_component c) * keys_of (drop (k + 1) parts) + units_from
+        (k + 1)
+    units_from-item = ap (λ xs. product_unit (plain_components xs)) (drop-item parts k c in_range is)
 
-  pub product_unit-more : (key : ℕ) → key * keys_of (drop k parts) + units_from k ≡ units_from 0
-      → (key * size_of c + component_unit (plain_component c)) * keys_of (drop (k + 1) parts) + units_from (k + 1)
-      ≡ units_from 0
-  product_unit-more key so_far =
-      sym (horner key (size_of c) (component_unit (plain_component c)) (keys_of (drop (k + 1) parts)) (units_from (k + 1)))
-      ∙ ap (λ m. key * m + (component_unit (plain_component c) * keys_of (drop (k + 1) parts) + units_from (k + 1)))
-      (sym keys_of-item)
-      ∙ ap (λ m. key * keys_of (drop k parts) + m) (sym units_from-item) ∙ so_far
+    pub product_unit-more : (key : ℕ) → key * keys_of (drop k parts) + units_from k ≡ units_from 0
+        → (key * size_of c + component_unit (plain_component c)) * keys_of (drop (k + 1) parts) + units_from (k + 1)
+        ≡ units_from 0
+    product_unit-more key so_far =
+        sym (horner key (size_of c) (component_unit (plain_component c)) (keys_of (drop (k + 1) parts))
+        (units_from (k + 1)))
+        ∙ ap (λ m. key * m + (component_unit (plain_component c) * keys_of (drop (k + 1) parts) + units_from (k + 1)))
+        (sym keys_of-item)
+        ∙ ap (λ m. key * keys_of (drop k parts) + m) (sym units_from-item) ∙ so_far
 
 -- no component is left at the end
 pub drop-all : {X : Type 0} (xs : List X) → drop (length xs) xs ≡ []
@@ -100,7 +104,8 @@ product_from-all parts a b a_in b_in =
     ap (λ x. product_mul (plain_components parts) x (b % keys_of parts)) (mod-eq_of_lt a_in)
     ∙ ap (λ x. product_mul (plain_components parts) a x) (mod-eq_of_lt b_in)
 
-module _ (parts : List Component) (k : ℕ) (c : Component) (in_range : k < length parts) (is : c ≡ get_or parts k c) (a b : ℕ) where
+module _ (parts : List Component) (k : ℕ) (c : Component) (in_range : k < length parts) (is : c ≡ get_or parts k c)
+    (a b : ℕ) where
   abbrev digit_product : ℕ
   digit_product =
       component_mul (plain_component c) (a / keys_of (drop (k + 1) parts) % size_of c)
@@ -113,7 +118,8 @@ module _ (parts : List Component) (k : ℕ) (c : Component) (in_range : k < leng
       ∙ by_digits (keys_of (drop (k + 1) parts)) refl
     where
       by_digits : (later : ℕ) → later ≡ keys_of (drop (k + 1) parts)
-          → component_mul (plain_component c) (a % (size_of c * keys_of (drop (k + 1) parts)) / keys_of (drop (k + 1) parts))
+          → component_mul (plain_component c)
+          (a % (size_of c * keys_of (drop (k + 1) parts)) / keys_of (drop (k + 1) parts))
           (b % (size_of c * keys_of (drop (k + 1) parts)) / keys_of (drop (k + 1) parts)) * keys_of (drop (k + 1) parts)
           + product_mul (plain_components (drop (k + 1) parts))
           (a % (size_of c * keys_of (drop (k + 1) parts)) % keys_of (drop (k + 1) parts))
@@ -128,7 +134,8 @@ module _ (parts : List Component) (k : ℕ) (c : Component) (in_range : k < leng
             mod-mod (size_of c) (keys_of (drop (k + 1) parts)) (size_of-some c) some_later b,
           ) refl
 
-  pub digit_product-within : digit_product * keys_of (drop (k + 1) parts) + product_from parts a b (k + 1) < keys_of parts
+  pub digit_product-within : digit_product * keys_of (drop (k + 1) parts) + product_from parts a b (k + 1) < keys_of
+      parts
   digit_product-within =
       let later = keys_of (drop (k + 1) parts) in
       let some_later = keys_of-some (drop (k + 1) parts) in
@@ -175,8 +182,10 @@ module _ (parts : List Component) (k i : ℕ) (c : Component) (in_range : k < le
       let digit_same : digit ≡ digit_product parts k c in_range is a b =
       digit_is
       ∙ ap (λ x. component_mul (plain_component c) (x % size) (b_rest % size)) (a_is ∙ ap (λ x. a / x) after)
-      ∙ ap (λ x. component_mul (plain_component c) (a / keys_of (drop (k + 1) parts) % size) (x % size)) (b_is ∙ ap (λ x. b / x) after)
-      ∙ ap (λ x. component_mul (plain_component c) (a / keys_of (drop (k + 1) parts) % x) (b / keys_of (drop (k + 1) parts) % x)) size_is in
+      ∙ ap (λ x. component_mul (plain_component c) (a / keys_of (drop (k + 1) parts) % size) (x % size))
+      (b_is ∙ ap (λ x. b / x) after)
+      ∙ ap (λ x. component_mul (plain_component c) (a / keys_of (drop (k + 1) parts) % x)
+      (b / keys_of (drop (k + 1) parts) % x)) size_is in
       let key_same : key ≡ product_from parts a b (k + 1) = key_is ∙ ap (product_from parts a b) next in
       let sum : key + digit * later ≡ product_from parts a b k =
       add_comm key (digit * later)
@@ -207,7 +216,8 @@ module _ (parts : List Component) (k : ℕ) (c : Component) (in_range : k < leng
       (drop-cons ds k 0 digit_in_range ∙ ap (λ j. get_or ds k 0 ∷ drop j ds) (sym (add-one k)))
 
   pub key_of-more : (key : ℕ)
-      → key * keys_of (drop k parts) + key_of (plain_components (drop k parts)) (drop k ds) ≡ key_of (plain_components parts) ds
+      → key * keys_of (drop k parts) + key_of (plain_components (drop k parts)) (drop k ds) ≡ key_of
+      (plain_components parts) ds
       → (key * size_of c + get_or ds k 0) * keys_of (drop (k + 1) parts)
       + key_of (plain_components (drop (k + 1) parts)) (drop (k + 1) ds) ≡ key_of (plain_components parts) ds
   key_of-more key so_far =
@@ -221,7 +231,8 @@ module _ (parts : List Component) (k : ℕ) (c : Component) (in_range : k < leng
 pub horner-within : (key s d k r whole : ℕ) → 0 < k → (key * s + d) * k + r ≡ whole → key * s + d ≤ whole
 horner-within key s d k r whole some same = (let le = at_most_times (key * s + d) k some in omega arith)
 
-pub AreDigits-length : (parts : List Component) (ds : List ℕ) → AreDigits (plain_components parts) ds → length ds ≡ length parts
+pub AreDigits-length : (parts : List Component) (ds : List ℕ) → AreDigits (plain_components parts) ds
+    → length ds ≡ length parts
 AreDigits-length [] [] are = refl
 AreDigits-length [] (d ∷ ds) are = absurd are
 AreDigits-length (c ∷ cs) [] are = absurd are
@@ -232,10 +243,12 @@ pub record RestAfter (parts : List Component) (k place whole later rest : ℕ) :
   pub later_is : later ≡ keys_of (drop k parts)
   pub is_key : rest < later
   pub digit : (j : ℕ) → k + j ≡ place
-      → get_or (digits (plain_components (drop k parts)) rest) j 0 ≡ get_or (digits (plain_components parts) whole) place 0
+      → get_or (digits (plain_components (drop k parts)) rest) j 0 ≡ get_or (digits (plain_components parts) whole)
+      place 0
 
 module _ (parts : List Component) (k : ℕ) (c : Component) (in_range : k < length parts) (is : c ≡ get_or parts k c)
-    (place whole later rest size : ℕ) (size_is : size ≡ size_of c) (so_far : RestAfter parts k place whole later rest) where
+    (place whole later rest size : ℕ) (size_is : size ≡ size_of c)
+    (so_far : RestAfter parts k place whole later rest) where
   pub later-item : later / size ≡ keys_of (drop (k + 1) parts)
   later-item =
       ap (λ x. later / x) size_is ∙ ap (λ x. x / size_of c) (so_far.later_is ∙ keys_of-item parts k c in_range is)
@@ -245,7 +258,8 @@ module _ (parts : List Component) (k : ℕ) (c : Component) (in_range : k < leng
   later-item_some = (let some_later = keys_of-some (drop (k + 1) parts) in let same = later-item in omega arith)
 
   digits-item : digits (plain_components (drop k parts)) rest
-      ≡ (rest / keys_of (drop (k + 1) parts)) ∷ digits (plain_components (drop (k + 1) parts)) (rest % keys_of (drop (k + 1) parts))
+      ≡ (rest / keys_of (drop (k + 1) parts)) ∷ digits (plain_components (drop (k + 1) parts))
+      (rest % keys_of (drop (k + 1) parts))
   digits-item = ap (λ xs. digits (plain_components xs) rest) (drop-item parts k c in_range is)
 
   pub RestAfter-more : k < place → RestAfter parts (k + 1) place whole (later / size) (rest % (later / size))
@@ -264,7 +278,8 @@ module _ (parts : List Component) (k : ℕ) (c : Component) (in_range : k < leng
       ∙ ap (λ xs. get_or xs 0 0) (sym digits-item)
       ∙ so_far.digit 0 (omega arith)
 
-pub same_place : (parts : List Component) (i k : ℕ) (c : Component) → k ≡ i → c ≡ get_or parts i c → c ≡ get_or parts k c
+pub same_place : (parts : List Component) (i k : ℕ) (c : Component) → k ≡ i → c ≡ get_or parts i c
+    → c ≡ get_or parts k c
 same_place parts i k c same is = is ∙ ap (λ j. get_or parts j c) (sym same)
 
 pub parts-product_unit : (parts : List Component) → product_unit (plain_components parts) < keys_of parts

@@ -1,5 +1,6 @@
 -- What the kits' sums over a list are: the cut number of items, whether there is one, and the chosen weight.
-use Rattle.std.proofs.Common.{◌≡◌, ℕ, ℤ, pos, ◌+ℤ◌, ◌≤ℤ◌, unsigned_abs, int_lt, Bool, true, false, cond, ◌⊎◌, List, [], ◌∷◌, map, Option, Some, None, inl, inr, refl, sym, subst, ap, ◌∙◌, arith}
+use Rattle.std.proofs.Common.{◌≡◌, ℕ, ℤ, pos, ◌+ℤ◌, ◌≤ℤ◌, unsigned_abs, int_lt, Bool, true, false, cond, ◌⊎◌, List}
+use Rattle.std.proofs.Common.{[], ◌∷◌, map, Option, Some, None, inl, inr, refl, sym, subst, ap, ◌∙◌, arith}
 use Rattle.std.specs.Int.{int_max, int_min}
 use Rattle.std.proofs.lemmas.Int.{ints, clamps}
 use Rattle.monoid_kit.specs.Items.{IsIn}
@@ -25,13 +26,15 @@ module _ {X : Type 0} where
   total-truth f [] all = refl
   total-truth f (x ∷ xs) all = ap (λ a. truth.add a (total truth f xs)) (all x (inl refl))
 
-  pub product-count : (f : X → ℕ) (xs : List X) → ((x : X) → IsIn x xs → f x ≡ 1) → product_by count.one count.mul f xs ≡ 1
+  pub product-count : (f : X → ℕ) (xs : List X) → ((x : X) → IsIn x xs → f x ≡ 1)
+      → product_by count.one count.mul f xs ≡ 1
   product-count f [] once = refl
   product-count f (x ∷ xs) once =
       ap (λ a. count.mul a (product_by count.one count.mul f xs)) (once x (inl refl))
       ∙ ap (count.mul 1) (product-count f xs (λ y y_in. once y (inr y_in)))
 
-  pub product-truth : (f : X → Bool) (xs : List X) → ((x : X) → IsIn x xs → f x ≡ true) → product_by truth.one truth.mul f xs ≡ true
+  pub product-truth : (f : X → Bool) (xs : List X) → ((x : X) → IsIn x xs → f x ≡ true)
+      → product_by truth.one truth.mul f xs ≡ true
   product-truth f [] all = refl
   product-truth f (x ∷ xs) all =
       ap (λ a. truth.mul a (product_by truth.one truth.mul f xs)) (all x (inl refl))
@@ -47,7 +50,8 @@ module _ {W X : Type 0} (nought : W) (plus choose : W → W → W) (reach : W �
       ∙ ap (chosen choose (Some (weight x))) (total-chosen f weight xs (λ y y_in. has y (inr y_in)))
 
   -- a product has the weights together
-  pub product-together : (f : X → Option W) (weight : X → W) (xs : List X) → ((x : X) → IsIn x xs → f x ≡ Some (weight x))
+  pub product-together : (f : X → Option W) (weight : X → W) (xs : List X)
+      → ((x : X) → IsIn x xs → f x ≡ Some (weight x))
       → product_by (Some nought) (together plus) f xs ≡ Some (product_by nought plus weight xs)
   product-together f weight [] has = refl
   product-together f weight (x ∷ xs) has =
@@ -78,7 +82,8 @@ module _ {W : Type 0} (choose : W → W → W) (up_to : W → W → Type 0)
     (one_of : (a b : W) → (choose a b ≡ a) ⊎ (choose a b ≡ b))
     (left_up : (a b : W) → up_to a (choose a b))
     (right_up : (a b : W) → up_to b (choose a b)) where
-  furthest-cons : (w : W) (ws : List W) (rest : Option W) → IsFurthest up_to ws rest → IsFurthest up_to (w ∷ ws) (chosen choose (Some w) rest)
+  furthest-cons : (w : W) (ws : List W) (rest : Option W) → IsFurthest up_to ws rest
+      → IsFurthest up_to (w ∷ ws) (chosen choose (Some w) rest)
   furthest-cons w ws None none = (
     inl refl,
     λ u u_in. elim u_in [
@@ -102,17 +107,21 @@ module _ {W : Type 0} (choose : W → W → W) (up_to : W → W → Type 0)
   chosen_of-IsFurthest (w ∷ ws) = furthest-cons w ws (chosen_of choose ws) (chosen_of-IsFurthest ws)
 
 greater-one_of : (a b : ℤ) → (int_max a b ≡ a) ⊎ (int_max a b ≡ b)
-greater-one_of a b = elim (int_lt b a) as (λ t. (cond t a b ≡ a) ⊎ (cond t a b ≡ b)) [ true ↦ inl refl | false ↦ inr refl ]
+greater-one_of a b = elim (int_lt b a) as (λ t. (cond t a b ≡ a) ⊎ (cond t a b ≡ b))
+    [ true ↦ inl refl | false ↦ inr refl ]
 
 lesser-one_of : (a b : ℤ) → (int_min a b ≡ a) ⊎ (int_min a b ≡ b)
-lesser-one_of a b = elim (int_lt b a) as (λ t. (cond t b a ≡ a) ⊎ (cond t b a ≡ b)) [ true ↦ inr refl | false ↦ inl refl ]
+lesser-one_of a b = elim (int_lt b a) as (λ t. (cond t b a ≡ a) ⊎ (cond t b a ≡ b))
+    [ true ↦ inr refl | false ↦ inl refl ]
 
 pub greatest_is_upper : GreatestIsUpper
 greatest_is_upper weights =
-    chosen_of-IsFurthest int_max (λ u w. u ≤ℤ w) (λ a. omega (arith, ints)) (λ a b c first then. omega (arith, ints)) greater-one_of
+    chosen_of-IsFurthest int_max (λ u w. u ≤ℤ w) (λ a. omega (arith, ints)) (λ a b c first then. omega (arith, ints))
+    greater-one_of
     (λ a b. omega (arith, ints, clamps)) (λ a b. omega (arith, ints, clamps)) weights
 
 pub least_is_lower : LeastIsLower
 least_is_lower weights =
-    chosen_of-IsFurthest int_min (λ u w. w ≤ℤ u) (λ a. omega (arith, ints)) (λ a b c first then. omega (arith, ints)) lesser-one_of
+    chosen_of-IsFurthest int_min (λ u w. w ≤ℤ u) (λ a. omega (arith, ints)) (λ a b c first then. omega (arith, ints))
+    lesser-one_of
     (λ a b. omega (arith, ints, clamps)) (λ a b. omega (arith, ints, clamps)) weights

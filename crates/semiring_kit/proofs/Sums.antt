@@ -124,7 +124,8 @@ module _ {E : Type 0} {r : SemiringOn E} (laws : IsSemiring r) where
   total_is_good f (x ∷ xs) good =
       add_is_good (f x) (total r f xs) (good x (inl refl)) (total_is_good f xs (λ y y_in. good y (inr y_in)))
 
-  pub good_are_sound : {X : Type 0} (f : X → E) (xs : List X) → AllElements (IsGood r) f xs → AllElements r.is_sound f xs
+  pub good_are_sound : {X : Type 0} (f : X → E) (xs : List X) → AllElements (IsGood r) f xs
+      → AllElements r.is_sound f xs
   good_are_sound f xs good = λ x x_in. (good x x_in).sound
 
   -- a sum reaches no further than its parts

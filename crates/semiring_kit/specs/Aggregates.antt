@@ -1,5 +1,6 @@
 -- What a semiring adds up over a list of candidates, and the answers that these sums are.
-use Rattle.std.specs.Prelude.{◌≡◌, ℕ, ℤ, pos, ◌+ℤ◌, ◌≤ℤ◌, Bool, true, false, min, List, [], ◌∷◌, length, map, Option, Some, None}
+use Rattle.std.specs.Prelude.{◌≡◌, ℕ, ℤ, pos, ◌+ℤ◌, ◌≤ℤ◌, Bool, true, false, min, List, [], ◌∷◌, length, map, Option}
+use Rattle.std.specs.Prelude.{Some, None}
 use Rattle.std.specs.Int.{int_max, int_min}
 use Rattle.monoid_kit.specs.Items.{IsIn, AllElements}
 use Rattle.monoid_kit.specs.Product.{product_by}

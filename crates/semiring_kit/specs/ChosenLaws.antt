@@ -4,7 +4,8 @@ use Rattle.std.proofs.Common.{arith, refl, ap, ◌∙◌}
 use Rattle.semiring_kit.specs.Semiring.{IsSemiring}
 use Rattle.semiring_kit.specs.Chosen.{chosen, together, reach_of, chosen_plus, IsChoice}
 
-module _ {W : Type 0} {nought : W} {plus choose : W → W → W} {reach : W → ℕ} (choice : IsChoice nought plus choose reach) where
+module _ {W : Type 0} {nought : W} {plus choose : W → W → W} {reach : W → ℕ}
+    (choice : IsChoice nought plus choose reach) where
   chosen-commutative : (a b : Option W) → chosen choose a b ≡ chosen choose b a
   chosen-commutative None None = refl
   chosen-commutative None (Some y) = refl

@@ -1,6 +1,7 @@
 -- The laws of counts that stop at a cap, which is at least 1.
 use Rattle.std.specs.Prelude.{◌≡◌, ℕ, zero, suc, ◌+◌, ◌*◌, ◌≤◌, min}
-use Rattle.std.proofs.Common.{arith, inl, inr, refl, sym, ap, ◌∙◌, mul_comm, mul_assoc, mul-add, mul-zero, zero-mul, one-mul, mul-le-mul_right}
+use Rattle.std.proofs.Common.{arith, inl, inr, refl, sym, ap, ◌∙◌, mul_comm, mul_assoc, mul-add, mul-zero, zero-mul}
+use Rattle.std.proofs.Common.{one-mul, mul-le-mul_right}
 use Rattle.std.proofs.lemmas.Bool.{cases_lt}
 use Rattle.semiring_kit.specs.Semiring.{IsSemiring}
 use Rattle.semiring_kit.specs.Count.{capped, count_cap, count}

@@ -1,5 +1,6 @@
 -- The numbers of candidates and of their marks.
-use Rattle.std.proofs.Common.{◌⊎◌, inl, inr, Bool, true, false, ◌≡◌, refl, sym, ap, ◌∙◌, ℕ, zero, suc, ◌+◌, ◌-◌, ◌*◌, ◌<◌, ◌≤◌, min, List, [], ◌∷◌, ◌++◌, map, length, arith, length-append}
+use Rattle.std.proofs.Common.{◌⊎◌, inl, inr, Bool, true, false, ◌≡◌, refl, sym, ap, ◌∙◌, ℕ, zero, suc, ◌+◌, ◌-◌, ◌*◌}
+use Rattle.std.proofs.Common.{◌<◌, ◌≤◌, min, List, [], ◌∷◌, ◌++◌, map, length, arith, length-append}
 use Rattle.std.specs.Prelude.{nat_le}
 use Rattle.std.proofs.Math.Nat.{mul-le-mul_left}
 use Rattle.std.proofs.lemmas.List.{length-map, map-append}
@@ -30,7 +31,8 @@ mark_count-longer m (c ∷ cs) =
 
 -- sublists
 
-sublists-length : (first n : ℕ) → length (sublists first (suc n)) ≡ length (sublists (first + 1) n) + length (sublists (first + 1) n)
+sublists-length : (first n : ℕ)
+    → length (sublists first (suc n)) ≡ length (sublists (first + 1) n) + length (sublists (first + 1) n)
 sublists-length first n =
     let rest = sublists (first + 1) n in
     length-append rest (map (λ c. mark first 0 ∷ c) rest)
@@ -69,19 +71,23 @@ labelled-length first rest [] = omega arith
 labelled-length first rest (label ∷ labels) =
     let more = labelled-length first rest labels in
     let these = length-map rest (λ c. mark first label ∷ c) in
-    let whole = length-append (map (λ c. mark first label ∷ c) rest) (flat_map (λ label. map (λ c. mark first label ∷ c) rest) labels) in
+    let whole = length-append (map (λ c. mark first label ∷ c) rest)
+    (flat_map (λ label. map (λ c. mark first label ∷ c) rest) labels) in
     omega (arith, more, these, whole)
 
 labelled-marks : (first : ℕ) (rest : List (List Mark)) (labels : List ℕ)
-    → mark_count (flat_map (λ label. map (λ c. mark first label ∷ c) rest) labels) ≡ length labels * (mark_count rest + length rest)
+    → mark_count (flat_map (λ label. map (λ c. mark first label ∷ c) rest) labels) ≡ length labels *
+    (mark_count rest + length rest)
 labelled-marks first rest [] = omega arith
 labelled-marks first rest (label ∷ labels) =
     let more = labelled-marks first rest labels in
     let these = mark_count-longer (mark first label) rest in
-    let whole = mark_count-append (map (λ c. mark first label ∷ c) rest) (flat_map (λ label. map (λ c. mark first label ∷ c) rest) labels) in
+    let whole = mark_count-append (map (λ c. mark first label ∷ c) rest)
+    (flat_map (λ label. map (λ c. mark first label ∷ c) rest) labels) in
     omega (arith, more, these, whole)
 
-assignments-length : (labels first n : ℕ) → length (assignments labels first (suc n)) ≡ labels * length (assignments labels (first + 1) n)
+assignments-length : (labels first n : ℕ)
+    → length (assignments labels first (suc n)) ≡ labels * length (assignments labels (first + 1) n)
 assignments-length labels first n =
     let rest = assignments labels (first + 1) n in
     labelled-length first rest (range_with_len 0 labels) ∙ ap (λ k. k * length rest) (length-range_with_len 0 labels)
@@ -105,7 +111,8 @@ assignments-marks-moved labels a b (suc n) =
     let lengths = assignments-length-moved labels (a + 1) (b + 1) n in
     let marks = assignments-marks-moved labels (a + 1) (b + 1) n in
     let both : mark_count (assignments labels (a + 1) n) + length (assignments labels (a + 1) n)
-    ≡ mark_count (assignments labels (b + 1) n) + length (assignments labels (b + 1) n) = omega (arith, lengths, marks) in
+    ≡ mark_count (assignments labels (b + 1) n) + length (assignments labels (b + 1) n) = omega
+    (arith, lengths, marks) in
     assignments-marks labels a n ∙ ap (λ k. labels * k) both ∙ sym (assignments-marks labels b n)
 
 -- runs
@@ -114,14 +121,16 @@ run-length : (first n : ℕ) → length (run first n) ≡ n
 run-length first n = length-map-range_with_len (λ row. mark row 0) first n
 
 -- lists of each length from 1 to n
-runs-marks : (f : ℕ → List Mark) → ((n : ℕ) → length (f n) ≡ n) → (n : ℕ) → mark_count (map f (range_with_len 1 n)) ≡ triangle n
+runs-marks : (f : ℕ → List Mark) → ((n : ℕ) → length (f n) ≡ n) → (n : ℕ)
+    → mark_count (map f (range_with_len 1 n)) ≡ triangle n
 runs-marks f lengths zero = refl
 runs-marks f lengths (suc n) =
     let longer : suc n ≡ n + 1 = omega arith in
     let split : map f (range_with_len 1 (suc n)) ≡ map f (range_with_len 1 n) ++ map f (range_with_len (1 + n) 1) =
     ap (λ k. map f (range_with_len 1 k)) longer ∙ ap (map f) (range-append 1 n 1)
     ∙ map-append f (range_with_len 1 n) (range_with_len (1 + n) 1) in
-    let whole = ap mark_count split ∙ mark_count-append (map f (range_with_len 1 n)) (map f (range_with_len (1 + n) 1)) in
+    let whole = ap mark_count split
+    ∙ mark_count-append (map f (range_with_len 1 n)) (map f (range_with_len (1 + n) 1)) in
     let last = mark_count-cons (f (1 + n)) [] in
     let size = lengths (1 + n) in
     let rest = runs-marks f lengths n in
@@ -232,14 +241,16 @@ sublists-marks-more n =
     let lengths = sublists-length-moved (0 + 1) 0 n in
     ap (λ k. mark_count (sublists 0 k)) more ∙ omega (arith, here, moved, lengths)
 
-pub assignments-length-more : (labels n : ℕ) → length (assignments labels 0 (n + 1)) ≡ labels * length (assignments labels 0 n)
+pub assignments-length-more : (labels n : ℕ)
+    → length (assignments labels 0 (n + 1)) ≡ labels * length (assignments labels 0 n)
 assignments-length-more labels n =
     let more : n + 1 ≡ suc n = omega arith in
     ap (λ k. length (assignments labels 0 k)) more ∙ assignments-length labels 0 n
     ∙ ap (λ k. labels * k) (assignments-length-moved labels (0 + 1) 0 n)
 
 pub assignments-marks-more : (labels n : ℕ)
-    → mark_count (assignments labels 0 (n + 1)) ≡ labels * (mark_count (assignments labels 0 n) + length (assignments labels 0 n))
+    → mark_count (assignments labels 0 (n + 1)) ≡ labels *
+    (mark_count (assignments labels 0 n) + length (assignments labels 0 n))
 assignments-marks-more labels n =
     let more : n + 1 ≡ suc n = omega arith in
     let lengths = assignments-length-moved labels (0 + 1) 0 n in

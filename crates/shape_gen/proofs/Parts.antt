@@ -1,4 +1,5 @@
--- The parts of lo..hi from those of lo..mid and mid..hi, the parts of no rows, and the candidates from the parts of all rows.
+-- The parts of lo..hi from those of lo..mid and mid..hi, the parts of no rows, and the candidates from the parts of
+-- all rows.
 use Rattle.std.proofs.Common.{◌≡◌, refl, sym, ap, ◌∙◌, subst, ℕ, zero, suc, ◌+◌, ◌-◌, ◌≤◌, [], ◌∷◌, ◌++◌, map, arith}
 use Rattle.std.specs.List.{range_with_len}
 use Rattle.std.specs.List.Sorted.{IsPermutation}
@@ -7,7 +8,8 @@ use Rattle.shape_gen.specs.declared.shape.Shape.TheVariants.{Sublists, Assign, P
 use Rattle.shape_gen.specs.Candidates.{run, sublists, assignments, prefixes, suffixes, segments, candidates}
 use Rattle.shape_gen.specs.Parts.{Whole, Pre, Suf, Seg, wholes, part}
 use Rattle.shape_gen.proofs.Lists.{concats}
-use Rattle.shape_gen.proofs.Splits.{run-split, sublists-split, assignments-split, prefixes-split, suffixes-split, segments-split}
+use Rattle.shape_gen.proofs.Splits.{run-split, sublists-split, assignments-split, prefixes-split, suffixes-split}
+use Rattle.shape_gen.proofs.Splits.{segments-split}
 
 wholes-split : (shape : Shape) (labels first n k : ℕ)
     → wholes shape labels first (n + k) ≡ concats (wholes shape labels first n) (wholes shape labels (first + n) k)
@@ -24,7 +26,8 @@ module _ (shape : Shape) (labels lo mid hi : ℕ) (left : lo ≤ mid) (right : m
   place : lo + (mid - lo) ≡ mid
   place = omega arith
 
-  pub whole-parts : part shape labels Whole lo hi ≡ concats (part shape labels Whole lo mid) (part shape labels Whole mid hi)
+  pub whole-parts : part shape labels Whole lo hi ≡ concats (part shape labels Whole lo mid)
+      (part shape labels Whole mid hi)
   whole-parts =
       ap (wholes shape labels lo) count ∙ wholes-split shape labels lo (mid - lo) (hi - mid)
       ∙ ap (λ a. concats (part shape labels Whole lo mid) (wholes shape labels a (hi - mid))) place
@@ -47,7 +50,8 @@ module _ (shape : Shape) (labels lo mid hi : ℕ) (left : lo ≤ mid) (right : m
   seg-parts =
       subst (λ n. IsPermutation (segments lo n) (part shape labels Seg lo mid ++ (part shape labels Seg mid hi
       ++ concats (part shape labels Suf lo mid) (part shape labels Pre mid hi)))) (sym count)
-      (subst (λ a. IsPermutation (segments lo ((mid - lo) + (hi - mid))) (segments lo (mid - lo) ++ (segments a (hi - mid)
+      (subst (λ a. IsPermutation (segments lo ((mid - lo) + (hi - mid)))
+      (segments lo (mid - lo) ++ (segments a (hi - mid)
       ++ concats (suffixes lo (mid - lo)) (prefixes a (hi - mid))))) place (segments-split lo (mid - lo) (hi - mid)))
 
 -- no rows: whole has the one empty list, and the others none

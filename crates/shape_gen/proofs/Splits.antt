@@ -1,12 +1,16 @@
 -- The lists of n + k rows from those of the first n and of the last k. Only segments come in another order.
-use Rattle.std.proofs.Common.{◌≡◌, sym, ap, ◌∙◌, subst, ℕ, zero, suc, ◌+◌, ◌-◌, ◌≤◌, List, [], ◌∷◌, ◌++◌, map, arith, append_assoc}
+use Rattle.std.proofs.Common.{◌≡◌, sym, ap, ◌∙◌, subst, ℕ, zero, suc, ◌+◌, ◌-◌, ◌≤◌, List, [], ◌∷◌, ◌++◌, map, arith}
+use Rattle.std.proofs.Common.{append_assoc}
 use Rattle.std.proofs.lemmas.List.{append-nil, map-append}
-use Rattle.std.proofs.lemmas.List.Sorted.{IsPermutation-append_comm, IsPermutation-append_right, IsPermutation-refl, IsPermutation-trans}
+use Rattle.std.proofs.lemmas.List.Sorted.{IsPermutation-append_comm, IsPermutation-append_right, IsPermutation-refl}
+use Rattle.std.proofs.lemmas.List.Sorted.{IsPermutation-trans}
 use Rattle.std.specs.List.{range_with_len, flat_map}
 use Rattle.std.specs.List.Sorted.{IsPermutation}
 use Rattle.shape_gen.specs.declared.mark.Mark.{Mark}
 use Rattle.shape_gen.specs.Candidates.{mark, run, sublists, assignments, prefixes, suffixes, segments}
-use Rattle.shape_gen.proofs.Lists.{concats, map-map, map-same, flat_map-flat_map, flat_map-same, range-append, range-shift, map-range, concats-append, concats-cons, concats-single, concats-empty, concats-one}
+use Rattle.shape_gen.proofs.Lists.{concats, map-map, map-same, flat_map-flat_map, flat_map-same, range-append}
+use Rattle.shape_gen.proofs.Lists.{range-shift, map-range, concats-append, concats-cons, concats-single}
+use Rattle.shape_gen.proofs.Lists.{concats-empty, concats-one}
 
 pub run-split : (first n k : ℕ) → run first (n + k) ≡ run first n ++ run (first + n) k
 run-split first n k =
@@ -49,7 +53,8 @@ assignments-split labels first (suc n) k =
     ∙ flat_map-same (λ label. map (λ c. mark first label ∷ c) (concats left right))
     (λ label. concats (map (λ c. mark first label ∷ c) left) right) (range_with_len 0 labels)
     (λ label. sym (concats-cons (mark first label) left right))
-    ∙ sym (flat_map-flat_map (λ c. map (λ d. c ++ d) right) (λ label. map (λ c. mark first label ∷ c) left) (range_with_len 0 labels))
+    ∙ sym (flat_map-flat_map (λ c. map (λ d. c ++ d) right) (λ label. map (λ c. mark first label ∷ c) left)
+    (range_with_len 0 labels))
 
 pub prefixes-split : (first n k : ℕ)
     → prefixes first (n + k) ≡ prefixes first n ++ concats (run first n ∷ []) (prefixes (first + n) k)
@@ -67,7 +72,8 @@ prefixes-split first n k =
     ∙ sym (concats-single (run first n) (prefixes (first + n) k)))
 
 -- a suffix that is longer than the last k rows
-longer_suffix : (first n k i : ℕ) → i ≤ n → run (first + (n + k) - (k + i)) (k + i) ≡ run (first + n - i) i ++ run (first + n) k
+longer_suffix : (first n k i : ℕ) → i ≤ n
+    → run (first + (n + k) - (k + i)) (k + i) ≡ run (first + n - i) i ++ run (first + n) k
 longer_suffix first n k i within =
     let start : first + (n + k) - (k + i) ≡ first + n - i = omega arith in
     let count : k + i ≡ i + k = omega arith in
@@ -86,7 +92,8 @@ suffixes-split first n k =
     ap (λ m. map suffix (range_with_len 1 m)) count
     ∙ ap (map suffix) (range-append 1 k n)
     ∙ map-append suffix (range_with_len 1 k) (range_with_len (1 + k) n)
-    ∙ ap (λ m. map (λ length. run (m - length) length) (range_with_len 1 k) ++ map suffix (range_with_len (1 + k) n)) end
+    ∙ ap (λ m. map (λ length. run (m - length) length) (range_with_len 1 k) ++ map suffix (range_with_len (1 + k) n))
+    end
     ∙ ap (λ l. suffixes (first + n) k ++ l) (
     ap (λ a. map suffix (range_with_len a n)) place
     ∙ ap (map suffix) (range-shift k 1 n)
@@ -112,7 +119,8 @@ regroup a b c d e =
     let right : a ++ ((c ++ (d ++ e)) ++ b) ≡ (a ++ c) ++ (d ++ (e ++ b)) = simp append_assoc in
     subst (λ l. IsPermutation l ((a ++ c) ++ (d ++ (e ++ b)))) (sym left)
     (subst (λ l. IsPermutation (a ++ (b ++ (c ++ (d ++ e)))) l) right
-    (IsPermutation-append_right a (b ++ (c ++ (d ++ e))) ((c ++ (d ++ e)) ++ b) (IsPermutation-append_comm b (c ++ (d ++ e)))))
+    (IsPermutation-append_right a (b ++ (c ++ (d ++ e))) ((c ++ (d ++ e)) ++ b)
+    (IsPermutation-append_comm b (c ++ (d ++ e)))))
 
 pub segments-split : (first n k : ℕ)
     → IsPermutation (segments first (n + k))
@@ -131,17 +139,22 @@ segments-split first (suc n) k =
     let inner = concats (suffixes (first + 1) n) later in
     let begins : prefixes first (suc (n + k)) ≡ prefixes first (suc n) ++ joint =
     ap (prefixes first) (sym count) ∙ prefixes-split first (suc n) k in
-    let rest : IsPermutation (segments (first + 1) (n + k)) (segments (first + 1) n ++ (segments (first + suc n) k ++ inner)) =
-    subst (λ a. IsPermutation (segments (first + 1) (n + k)) (segments (first + 1) n ++ (segments a k ++ concats (suffixes (first + 1) n) (prefixes a k))))
+    let rest : IsPermutation (segments (first + 1) (n + k))
+    (segments (first + 1) n ++ (segments (first + suc n) k ++ inner)) =
+    subst (λ a. IsPermutation (segments (first + 1) (n + k))
+    (segments (first + 1) n ++ (segments a k ++ concats (suffixes (first + 1) n) (prefixes a k))))
     place (segments-split (first + 1) n k) in
     let crossing : concats (suffixes first (suc n)) later ≡ inner ++ joint =
-    ap (λ l. concats l later) (suffixes-more first n) ∙ concats-append (suffixes (first + 1) n) (run first (suc n) ∷ []) later in
+    ap (λ l. concats l later) (suffixes-more first n)
+    ∙ concats-append (suffixes (first + 1) n) (run first (suc n) ∷ []) later in
     let whole : segments first (suc n + k) ≡ (prefixes first (suc n) ++ joint) ++ segments (first + 1) (n + k) =
     ap (segments first) count ∙ ap (λ l. l ++ segments (first + 1) (n + k)) begins in
     let ends : (prefixes first (suc n) ++ segments (first + 1) n) ++ (segments (first + suc n) k ++ (inner ++ joint))
     ≡ segments first (suc n) ++ (segments (first + suc n) k ++ concats (suffixes first (suc n)) later) =
     ap (λ l. segments first (suc n) ++ (segments (first + suc n) k ++ l)) (sym crossing) in
-    subst (λ l. IsPermutation l (segments first (suc n) ++ (segments (first + suc n) k ++ concats (suffixes first (suc n)) later))) (sym whole)
+    subst (λ l. IsPermutation l
+    (segments first (suc n) ++ (segments (first + suc n) k ++ concats (suffixes first (suc n)) later)))
+    (sym whole)
     (subst (λ l. IsPermutation ((prefixes first (suc n) ++ joint) ++ segments (first + 1) (n + k)) l) ends
     (IsPermutation-trans _ _ _
     (IsPermutation-append_right (prefixes first (suc n) ++ joint) _ _ rest)

@@ -20,7 +20,8 @@ components Prefixes = Whole ∷ Pre ∷ []
 components Suffixes = Whole ∷ Suf ∷ []
 components Segments = Whole ∷ Pre ∷ Suf ∷ Seg ∷ []
 
--- the whole lists of count rows from first on: the candidates of sublists and assignments, else the one list of all rows
+-- the whole lists of count rows from first on: the candidates of sublists and assignments, else the one list of all
+-- rows
 abbrev pub wholes : Shape → ℕ → ℕ → ℕ → List (List Mark)
 wholes Sublists labels first count = sublists first count
 wholes Assign labels first count = assignments labels first count

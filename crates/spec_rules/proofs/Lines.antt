@@ -7,7 +7,8 @@ use Rattle.spec_rules.specs.declared.fault.SinglePart.{SinglePart}
 use Rattle.spec_rules.specs.declared.fault.SinglePart.TheVariants.{Columns, Labels, Generate, Aggregate}
 use Rattle.spec_rules.specs.SpecRules.{is_single, single_of, repeated}
 
-pub any-push : {A : Type 0} (test : A → Bool) (xs : List A) (x : A) → list_any test (xs ++ x ∷ []) ≡ (list_any test xs || test x)
+pub any-push : {A : Type 0} (test : A → Bool) (xs : List A) (x : A)
+    → list_any test (xs ++ x ∷ []) ≡ (list_any test xs || test x)
 any-push test [] x = elim (test x) as (λ b. (b || false) ≡ (false || b)) [ true ↦ refl | false ↦ refl ]
 any-push test (y ∷ ys) x =
     elim (test y) as (λ b. (b || list_any test (ys ++ x ∷ [])) ≡ ((b || list_any test ys) || test x)) [
@@ -23,5 +24,6 @@ repeated_part before line Labels is = rw is refl
 repeated_part before line Generate is = rw is refl
 repeated_part before line Aggregate is = rw is refl
 
-pub repeated_none : (before : List PartTree) (line : PartTree) → single_of line.kind ≡ None → repeated before line ≡ None
+pub repeated_none : (before : List PartTree) (line : PartTree) → single_of line.kind ≡ None
+    → repeated before line ≡ None
 repeated_none before line is = rw is refl

@@ -5,15 +5,18 @@ use Rattle.std.specs.Prelude.{nat_lt, nat_le, Option, Some, None, option_map}
 use Rattle.std.specs.List.{list_any, find, flat_map}
 use Rattle.std.specs.Int.RustNames.{int_lt}
 use Rattle.shape_gen.specs.declared.shape.Shape.TheVariants.{Assign}
-use Rattle.gta_spec.specs.declared.limits.TheConstants.{NAME_LIMIT, HEADER_LIMIT, COLUMN_LIMIT, LABEL_LIMIT, MEASURE_LIMIT}
+use Rattle.gta_spec.specs.declared.limits.TheConstants.{NAME_LIMIT, HEADER_LIMIT, COLUMN_LIMIT, LABEL_LIMIT}
+use Rattle.gta_spec.specs.declared.limits.TheConstants.{MEASURE_LIMIT}
 use Rattle.gta_spec.specs.declared.limits.TheConstants.{TABLE_LIMIT, TEST_LIMIT, ELEMENT_LIMIT, CASE_LIMIT, TERM_LIMIT}
-use Rattle.gta_spec.specs.declared.limits.TheConstants.{ATOM_LIMIT, FACTOR_LIMIT, BOUND_LIMIT, MODULUS_LIMIT, KEEP_LIMIT}
+use Rattle.gta_spec.specs.declared.limits.TheConstants.{ATOM_LIMIT, FACTOR_LIMIT, BOUND_LIMIT, MODULUS_LIMIT}
+use Rattle.gta_spec.specs.declared.limits.TheConstants.{KEEP_LIMIT}
 use Rattle.gta_spec.specs.declared.parts.AtomPart.{AtomPart}
 use Rattle.gta_spec.specs.declared.parts.TermPart.{TermPart}
 use Rattle.gta_spec.specs.declared.parts.Check.{Check}
 use Rattle.gta_spec.specs.declared.parts.Check.TheVariants.{Compare, Mod}
 use Rattle.gta_spec.specs.declared.parts.GoalPart.TheVariants as goals
-use Rattle.gta_spec.specs.Parts.{CaseTree, PickTree, TestTree, Sum, Length, Fold, KindTree, Columns, Labels, Measure, Table}
+use Rattle.gta_spec.specs.Parts.{CaseTree, PickTree, TestTree, Sum, Length, Fold, KindTree, Columns, Labels, Measure}
+use Rattle.gta_spec.specs.Parts.{Table}
 use Rattle.gta_spec.specs.Parts.{Times, Generate, Test, Aggregate, PartTree, SpecTree}
 use Rattle.spec_rules.specs.declared.fault.SinglePart.{SinglePart}
 use Rattle.spec_rules.specs.declared.fault.SinglePart.TheVariants as singles
@@ -55,7 +58,8 @@ is_single part line = is_the part (single_of line.kind)
 
 -- the first part that must stand and doesn't
 abbrev pub missing : List PartTree → Option SinglePart
-missing parts = find (λ part. not (list_any (is_single part) parts)) (singles.Columns ∷ singles.Generate ∷ singles.Aggregate ∷ [])
+missing parts = find (λ part. not (list_any (is_single part) parts))
+    (singles.Columns ∷ singles.Generate ∷ singles.Aggregate ∷ [])
 
 -- the part that a line repeats
 abbrev pub repeated : List PartTree → PartTree → Option SinglePart

@@ -1,5 +1,6 @@
 -- Rows of products by number, and the fronts of lists that they are read from.
-use Rattle.std.proofs.Common.{◌≡◌, ℕ, ◌+◌, ◌*◌, ◌<◌, Bool, true, false, not, List, [], ◌∷◌, ◌++◌, map, length, get_or, take, All, Option, Some, None, option_map, refl, sym, ap, ◌∙◌, subst, arith}
+use Rattle.std.proofs.Common.{◌≡◌, ℕ, ◌+◌, ◌*◌, ◌<◌, Bool, true, false, not, List, [], ◌∷◌, ◌++◌, map, length, get_or}
+use Rattle.std.proofs.Common.{take, All, Option, Some, None, option_map, refl, sym, ap, ◌∙◌, subst, arith}
 use Rattle.std.specs.Prelude.{is_some, unwrap_or, ◌==◌}
 use Rattle.std.specs.List.{find, flat_map, list_all}
 use Rattle.std.specs.Str.{bytes_eq}
@@ -18,7 +19,8 @@ use Rattle.gta_spec.specs.declared.parts.TablePart.{TablePart}
 use Rattle.gta_spec.specs.WellFormed.{EachFits}
 use Rattle.gta_spec.specs.Parts.{PartTree, TableTree, part_tree, kind_tree, table_tree}
 use Rattle.spec_tables.proofs.Fronts.{map_take_next, split_at, take_next}
-use Rattle.spec_tables.specs.Tables.{number_of, is_one_of, only_one, option_list, numbers_in, numbers_if, row_of, products_of, products_by_number, table_parts, tables_in}
+use Rattle.spec_tables.specs.Tables.{number_of, is_one_of, only_one, option_list, numbers_in, numbers_if, row_of}
+use Rattle.spec_tables.specs.Tables.{products_of, products_by_number, table_parts, tables_in}
 use Rattle.spec_tables.specs.Faults.{not_square_at}
 
 by_test : {A : Type 0} (b : Bool) → (b ≡ true → A) → (b ≡ false → A) → A
@@ -26,7 +28,8 @@ by_test true t f = t refl
 by_test false t f = f refl
 
 -- a name that is one of these has a number below their count
-pub number_of-within : (names : List (List ℕ)) (x : List ℕ) → is_one_of names x ≡ true → number_of names x < length names
+pub number_of-within : (names : List (List ℕ)) (x : List ℕ) → is_one_of names x ≡ true
+    → number_of names x < length names
 number_of-within [] x known = absurd (let h : false ≡ true = known in cc)
 number_of-within (y ∷ ys) x known =
     by_test (bytes_eq y x)
@@ -45,7 +48,8 @@ number_of-past (y ∷ ys) x unknown =
     let same = number_of-past ys x (let h : is_one_of ys x ≡ false = rw f at unknown in h) in
     omega arith)
 
-pub is_one_of-number : (names : List (List ℕ)) (x : List ℕ) → number_of names x < length names → is_one_of names x ≡ true
+pub is_one_of-number : (names : List (List ℕ)) (x : List ℕ) → number_of names x < length names
+    → is_one_of names x ≡ true
 is_one_of-number names x below =
     by_test (is_one_of names x) (λ t. t) (λ f. absurd (let past = number_of-past names x f in omega arith))
 
@@ -72,7 +76,8 @@ pub only_one-second : {A : Type 0} (front back : List A) (found : Option A) (x :
 only_one-second front back None x some is = absurd (let h : false ≡ true = some in cc)
 only_one-second front back (Some y) x some is = rw is refl
 
-pub some_mapped : {A B : Type 0} (f : A → B) (found : Option A) → is_some found ≡ true → is_some (option_map f found) ≡ true
+pub some_mapped : {A B : Type 0} (f : A → B) (found : Option A) → is_some found ≡ true
+    → is_some (option_map f found) ≡ true
 some_mapped f None some = some
 some_mapped f (Some x) some = refl
 
@@ -172,15 +177,18 @@ module _ (parts : List PartTree) (table : TableTree) where
       numbers_if-row table.elements (only_one (products_of parts table.name element)) row is
 
   whole_cells : (elements : List (List ℕ)) → find (λ e. not (is_some (row_of parts table e))) elements ≡ None
-      → (length (flat_map (λ e. unwrap_or (row_of parts table e) []) elements) ≡ length elements * length table.elements)
+      → (length (flat_map (λ e. unwrap_or (row_of parts table e) []) elements) ≡ length elements * length
+      table.elements)
       × All (λ cell. cell < length table.elements) (flat_map (λ e. unwrap_or (row_of parts table e) []) elements)
   whole_cells [] square = (omega arith, All-nil (λ cell. cell < length table.elements))
   whole_cells (e ∷ es) square =
       by_test (not (is_some (row_of parts table e)))
       (λ t. absurd (none-some e (let h : Some e ≡ None = rw t at square in sym h)))
       (λ f. let here = whole_rows (row_of parts table e) e refl f in
-      let rest = whole_cells es (let r : find (λ e. not (is_some (row_of parts table e))) es ≡ None = rw f at square in r) in
-      let both = length-append (unwrap_or (row_of parts table e) []) (flat_map (λ e. unwrap_or (row_of parts table e) []) es) in (
+      let rest = whole_cells es
+      (let r : find (λ e. not (is_some (row_of parts table e))) es ≡ None = rw f at square in r) in
+      let both = length-append (unwrap_or (row_of parts table e) [])
+      (flat_map (λ e. unwrap_or (row_of parts table e) []) es) in (
         omega (arith, here.0, rest.0, both),
         All-append (λ cell. cell < length table.elements) (unwrap_or (row_of parts table e) [])
             (flat_map (λ e. unwrap_or (row_of parts table e) []) es) here.1 rest.1,
@@ -202,7 +210,8 @@ module _ (parts : List PartTree) (table : TableTree) where
 -- the lines of tables, line by line
 
 pub tables_in-next : (parts : List Part) (i : ℕ) (d : Part) → i < length parts → d ≡ get_or parts i d
-    → tables_in (map part_tree (take (i + 1) parts)) ≡ tables_in (map part_tree (take i parts)) ++ table_parts (kind_tree d.kind)
+    → tables_in (map part_tree (take (i + 1) parts)) ≡ tables_in (map part_tree (take i parts)) ++ table_parts
+    (kind_tree d.kind)
 tables_in-next parts i d below is =
     let on : PartTree → List TableTree = λ part. table_parts part.kind in
     ap (flat_map on) (map_take_next part_tree parts i d below is)
@@ -213,14 +222,16 @@ each_front : (ts us : List TableTree) → EachFits IsReadyTable (ts ++ us) → E
 each_front [] us fits = fits
 each_front (t ∷ ts) us fits = each_front ts us fits.1
 
-pub table_ready : (parts : List Part) (i : ℕ) (d : Part) (table : TablePart) → EachFits IsReadyTable (tables_in (map part_tree parts))
+pub table_ready : (parts : List Part) (i : ℕ) (d : Part) (table : TablePart)
+    → EachFits IsReadyTable (tables_in (map part_tree parts))
     → i < length parts → d ≡ get_or parts i d → d.kind ≡ kinds.Table table → IsReadyTable (table_tree table)
 table_ready parts i d table fits below is is_table =
     let on : PartTree → List TableTree = λ part. table_parts part.kind in
     let split = ap (λ (ps : List Part). tables_in (map part_tree ps)) (split_at parts i d below is)
     ∙ ap (flat_map on) (map-append part_tree (take i parts) (d ∷ drop (i + 1) parts))
     ∙ flat_map-append on (map part_tree (take i parts)) (map part_tree (d ∷ drop (i + 1) parts)) in
-    let back = each_front (tables_in (map part_tree (take i parts))) (tables_in (map part_tree (d ∷ drop (i + 1) parts)))
+    let back = each_front (tables_in (map part_tree (take i parts)))
+    (tables_in (map part_tree (d ∷ drop (i + 1) parts)))
     (subst (EachFits IsReadyTable) split fits) in
     let here : EachFits IsReadyTable (table_tree table ∷ tables_in (map part_tree (drop (i + 1) parts))) =
     rw is_table at back in

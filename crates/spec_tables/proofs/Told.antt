@@ -34,7 +34,8 @@ by_test true t f = t refl
 by_test false t f = f refl
 
 -- what is found passes the test, and nothing that another search passed over
-found-true : (p : TablesFault → Bool) (faults : List TablesFault) (x : TablesFault) → find p faults ≡ Some x → p x ≡ true
+found-true : (p : TablesFault → Bool) (faults : List TablesFault) (x : TablesFault) → find p faults ≡ Some x
+    → p x ≡ true
 found-true p [] x found = absurd (none-some x found)
 found-true p (y ∷ ys) x found =
     by_test (p y)
@@ -115,7 +116,8 @@ first_told-push faults fault =
     (λ x found. rank-unit x (found-true is_of_unit faults x found))
     (λ x found. rank-triple x (found-true is_of_triple faults x found))
     (λ x no_unit no_triple found.
-    rank-other x (passed_over is_of_unit all faults x no_unit found) (passed_over is_of_triple all faults x no_triple found)))
+    rank-other x (passed_over is_of_unit all faults x no_unit found)
+    (passed_over is_of_triple all faults x no_triple found)))
 
 pub first_told-none : first_told [] ≡ None
 unfolding first_told

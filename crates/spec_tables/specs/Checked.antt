@@ -1,5 +1,6 @@
 -- What the check of one table gives, and which of two faults is told.
-use Rattle.std.specs.Prelude.{◌≡◌, ℕ, ◌<◌, nat_lt, if◌then◌else◌, List, length, slice_index_or, Result, Ok, Err, Option, Some, None, option_map, []}
+use Rattle.std.specs.Prelude.{◌≡◌, ℕ, ◌<◌, nat_lt, if◌then◌else◌, List, length, slice_index_or, Result, Ok, Err}
+use Rattle.std.specs.Prelude.{Option, Some, None, option_map, []}
 use Rattle.gta_checked.specs.declared.resolved.Table.{Table}
 use Rattle.gta_checked.specs.Plain.{plain_named}
 use Rattle.gta_spec.specs.Parts.{TableTree, PartTree}

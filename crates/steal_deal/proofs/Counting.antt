@@ -1,5 +1,6 @@
 -- Sums over a list in which one element changes, and how often a number stands in a list that grows.
-use Rattle.std.proofs.Common.{◌≡◌, ◌≢◌, ℕ, zero, suc, ◌+◌, ◌≤◌, cond, List, [], ◌∷◌, ◌++◌, set, sum_by, sym, ap, ◌∙◌, eq-eqb, ne_eqb, arith}
+use Rattle.std.proofs.Common.{◌≡◌, ◌≢◌, ℕ, zero, suc, ◌+◌, ◌≤◌, cond, List, [], ◌∷◌, ◌++◌, set, sum_by, sym, ap, ◌∙◌}
+use Rattle.std.proofs.Common.{eq-eqb, ne_eqb, arith}
 use mathlib.Core.Option.{some, some-injective, some-ne-none}
 use lib.ListN.{get_elem?}
 use Rattle.std.proofs.lemmas.List.Sums.{sum_by-cons, sum_by_push}
@@ -7,7 +8,8 @@ use Rattle.steal_deal.specs.Views.{copies}
 
 module _ {X : Type 0} (f : X → ℕ) where
   -- one element is exchanged
-  pub sum_by-set : (xs : List X) (i : ℕ) (x y : X) → get_elem? xs i ≡ some x → sum_by f (set xs i y) + f x ≡ sum_by f xs + f y
+  pub sum_by-set : (xs : List X) (i : ℕ) (x y : X) → get_elem? xs i ≡ some x
+      → sum_by f (set xs i y) + f x ≡ sum_by f xs + f y
   sum_by-set [] i x y at = absurd (some-ne-none x (sym at))
   sum_by-set (z ∷ zs) zero x y at =
       let same : f z ≡ f x = ap f (some-injective z x at) in
@@ -33,7 +35,8 @@ module _ {X : Type 0} (f : X → ℕ) where
       omega arith
 
   -- a sum of smaller parts is smaller
-  pub sum_by-le-sum_by : (g : X → ℕ) (xs : List X) → ((i : ℕ) (x : X) → get_elem? xs i ≡ some x → f x ≤ g x) → sum_by f xs ≤ sum_by g xs
+  pub sum_by-le-sum_by : (g : X → ℕ) (xs : List X) → ((i : ℕ) (x : X) → get_elem? xs i ≡ some x → f x ≤ g x)
+      → sum_by f xs ≤ sum_by g xs
   sum_by-le-sum_by g [] le = omega arith
   sum_by-le-sum_by g (z ∷ zs) le =
       let first = le 0 z (λ _. some z) in
@@ -47,5 +50,6 @@ copies_push-same x xs = sum_by_push _ xs x ∙ ap (λ b. copies x xs + cond b 1 
 
 pub copies_push-other : (x y : ℕ) (xs : List ℕ) → y ≢ x → copies x (xs ++ y ∷ []) ≡ copies x xs
 copies_push-other x y xs differ =
-    let one_more : copies x (xs ++ y ∷ []) ≡ copies x xs + 0 = sum_by_push _ xs y ∙ ap (λ b. copies x xs + cond b 1 0) (ne_eqb y x differ) in
+    let one_more : copies x (xs ++ y ∷ []) ≡ copies x xs + 0 = sum_by_push _ xs y
+    ∙ ap (λ b. copies x xs + cond b 1 0) (ne_eqb y x differ) in
     omega arith

@@ -27,7 +27,8 @@ module _ (v w : View) (b : ℕ) where
   taken_grown y drawn = ap (λ (x : View). x.taken) drawn.joins
 
   pub taken_kept : Draws v b Empty w → w.taken ≡ v.taken
-  taken_kept drawn = ⊎_elim (λ same. ap (λ (x : View). x.taken) same.1) (λ found. ap (λ (x : View). x.taken) found.joins) drawn
+  taken_kept drawn = ⊎_elim (λ same. ap (λ (x : View). x.taken) same.1)
+      (λ found. ap (λ (x : View). x.taken) found.joins) drawn
 
   -- a block that is met stays met, and one that gave Empty is met
   pub met_kept : (d : Drawn) → Draws v b d w → (c : ℕ) → HasMet v c → HasMet w c
@@ -35,12 +36,14 @@ module _ (v w : View) (b : ℕ) where
   met_kept Empty drawn c met = ⊎_elim
       (λ same. ap (λ (x : View). copies c x.met) same.1 ∙ met)
       (λ found. dite (ℕ_discrete b c)
-      (λ is. absurd (let none_yet = found.not_met in let once : copies b v.met ≡ 1 = subst (λ (n : ℕ). copies n v.met ≡ 1) (sym is) met in omega arith))
+      (λ is. absurd (let none_yet = found.not_met in let once : copies b v.met ≡ 1 = subst
+      (λ (n : ℕ). copies n v.met ≡ 1) (sym is) met in omega arith))
       (λ differ. ap (λ (x : View). copies c x.met) found.joins ∙ (copies_push-other c b v.met differ ∙ met)))
       drawn
 
   pub met_by_empty : Draws v b Empty w → HasMet w b
   met_by_empty drawn = ⊎_elim
       (λ same. ap (λ (x : View). copies b x.met) same.1 ∙ same.0)
-      (λ found. ap (λ (x : View). copies b x.met) found.joins ∙ (copies_push-same b v.met ∙ ap (λ (n : ℕ). n + 1) found.not_met))
+      (λ found. ap (λ (x : View). copies b x.met) found.joins
+      ∙ (copies_push-same b v.met ∙ ap (λ (n : ℕ). n + 1) found.not_met))
       drawn

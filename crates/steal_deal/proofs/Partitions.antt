@@ -1,5 +1,6 @@
 -- Blocks lie in order, none over another, and end where the count does.
-use Rattle.std.proofs.Common.{◌≡◌, ◌≢◌, ℕ, zero, suc, ◌+◌, ◌*◌, ◌/◌, ◌%◌, ◌<◌, ◌≤◌, min, subst, suc-mul, div-add-mod', mod-lt, lt_of_not-le, arith}
+use Rattle.std.proofs.Common.{◌≡◌, ◌≢◌, ℕ, zero, suc, ◌+◌, ◌*◌, ◌/◌, ◌%◌, ◌<◌, ◌≤◌, min, subst, suc-mul, div-add-mod'}
+use Rattle.std.proofs.Common.{mod-lt, lt_of_not-le, arith}
 use native.Mathlib.Decide.{dec_le}
 use mathlib.Core.Logic.{dite}
 use Rattle.steal_deal.specs.declared.partition.Partition.{Partition}
@@ -41,7 +42,8 @@ module _ (p : Partition) where
   place_below b k below of_block = let within = ends_within b below in omega arith
 
   -- numbers at places of two blocks are different
-  pub places_differ : (b c k j : ℕ) → b ≢ c → k < block_size p b → j < block_size p c → block_begin p b + k ≢ block_begin p c + j
+  pub places_differ : (b c k j : ℕ) → b ≢ c → k < block_size p b → j < block_size p c
+      → block_begin p b + k ≢ block_begin p c + j
   places_differ b c k j differ in_b in_c same = dite (dec_le b c)
       (λ le. let before = ends_before b c (omega arith) in omega arith)
       (λ not_le. let before = ends_before c b (lt_of_not-le not_le) in omega arith)

@@ -15,7 +15,8 @@ use Rattle.gta_meaning.proofs.First.{find-range-first, find-range-none}
 use Rattle.gta_checked.specs.Plain.{PlainTest, plain_test}
 use Rattle.gta_checked.specs.declared.resolved.Test.{Test}
 use Rattle.test_homs.specs.declared.negatives.Negative.{Negative}
-use Rattle.test_homs.specs.Negatives.{first_some, negative_label, negative_at, negative_value, negative_of_test, negative_from, first_negative}
+use Rattle.test_homs.specs.Negatives.{first_some, negative_label, negative_at, negative_value, negative_of_test}
+use Rattle.test_homs.specs.Negatives.{negative_from, first_negative}
 
 some≢none : {A : Type 0} (x : A) → Some x ≡ None → ⊥
 some≢none x same = grind arith
@@ -186,7 +187,8 @@ module _ (checked : PlainChecked) (rows : PlainRows) where
   first_negative-nowhere items same none =
       ap (negative_from checked rows 0) (sym same)
       ∙ negative_from-nowhere items 0
-      (λ k d below. ap (λ n. negative_of_test checked rows n (plain_test (get_or items k d))) (omega arith) ∙ none k d below)
+      (λ k d below. ap (λ n. negative_of_test checked rows n (plain_test (get_or items k d))) (omega arith)
+      ∙ none k d below)
 
   pub first_negative-at : (items : List Test) → map plain_test items ≡ checked.tests
       → (i : ℕ) (d : Test) (y : Negative) → i < length items
@@ -196,5 +198,6 @@ module _ (checked : PlainChecked) (rows : PlainRows) where
   first_negative-at items same i d y below before here =
       ap (negative_from checked rows 0) (sym same)
       ∙ negative_from-at items 0 i d y below
-      (λ k less. ap (λ n. negative_of_test checked rows n (plain_test (get_or items k d))) (omega arith) ∙ before k less)
+      (λ k less. ap (λ n. negative_of_test checked rows n (plain_test (get_or items k d))) (omega arith)
+      ∙ before k less)
       (ap (λ n. negative_of_test checked rows n (plain_test (get_or items i d))) (omega arith) ∙ here)

@@ -1,6 +1,6 @@
-//! Tests of the crates of the text edge, a file for each crate: texts and the lines, specifications, tables, reports and
-//! refusals that they make, and streams that fail.
-//! They stand in a crate of their own, since a crate with tests is proved twice.
+//! Tests of the crates of the text edge, a file for each crate: texts and the lines, specifications, tables, reports
+//! and refusals that they make, and streams that fail. They stand in a crate of their own, since a crate with tests
+//! is proved twice.
 #![tactic(auto)]
 
 #[cfg(test)]

@@ -1,12 +1,14 @@
 -- Lemmas on the first k of a list, over any ranking: where two parts have the same first k, so has the whole,
 -- and a list that is in order and has no more than k items is its own first k.
-use Rattle.std.proofs.Common.{◌≡◌, ℕ, zero, suc, false, List, [], ◌∷◌, ◌++◌, take, refl, sym, ap, subst, ◌∙◌, arith, append_assoc}
+use Rattle.std.proofs.Common.{◌≡◌, ℕ, zero, suc, false, List, [], ◌∷◌, ◌++◌, take, refl, sym, ap, subst, ◌∙◌, arith}
+use Rattle.std.proofs.Common.{append_assoc}
 use Rattle.std.proofs.lemmas.List.{length-take, take_all}
 use Rattle.std.specs.declared.cmp.Ordering.{Ordering}
 use Rattle.std.specs.Ordering.{is_gt}
 use Rattle.witness_order.specs.Rankings.{IsRanking}
 use Rattle.witness_order.specs.Ranked.{Leads, Ascends, IsRankedWithin, placed, ranked, first_of}
-use Rattle.witness_order.proofs.Placed.{by_test, placed_all, placed-after, placed-before, ranked-append, ranked-append_comm, take-placed_all, not_after_back}
+use Rattle.witness_order.proofs.Placed.{by_test, placed_all, placed-after, placed-before, ranked-append}
+use Rattle.witness_order.proofs.Placed.{ranked-append_comm, take-placed_all, not_after_back}
 
 module _ {E : Type 0} (cmp : E → E → Ordering) (order : IsRanking cmp) where
   -- parts with the same first k

@@ -1,8 +1,10 @@
 -- A list in order has the items of the list, and its first k come before the others.
-use Rattle.std.proofs.Common.{◌≡◌, ℕ, zero, suc, ◌+◌, ◌<◌, min, false, List, [], ◌∷◌, length, take, drop, get_or, sym, ap, subst, ◌∙◌, arith}
+use Rattle.std.proofs.Common.{◌≡◌, ℕ, zero, suc, ◌+◌, ◌<◌, min, false, List, [], ◌∷◌, length, take, drop, get_or, sym}
+use Rattle.std.proofs.Common.{ap, subst, ◌∙◌, arith}
 use Rattle.std.specs.List.{All}
 use Rattle.std.specs.List.Sorted.{IsPermutation, IsSorted}
-use Rattle.std.proofs.lemmas.List.Sorted.{IsPermutation-refl, IsPermutation-cons, IsPermutation-sym, IsPermutation-trans, IsPermutation-middle}
+use Rattle.std.proofs.lemmas.List.Sorted.{IsPermutation-refl, IsPermutation-cons, IsPermutation-sym}
+use Rattle.std.proofs.lemmas.List.Sorted.{IsPermutation-trans, IsPermutation-middle}
 use Rattle.std.proofs.lemmas.List.{take-append-drop, length-take, length-drop, get_or-drop}
 use Rattle.std.proofs.lemmas.List.Elements.{All-cons}
 use Rattle.std.specs.declared.cmp.Ordering.{Ordering}
@@ -82,6 +84,7 @@ module _ {E : Type 0} (cmp : E → E → Ordering) (order : IsRanking cmp) where
     left_out = drop k (ranked cmp xs);
     permutation = subst (IsPermutation xs) (sym (take-append-drop k (ranked cmp xs))) (IsPermutation-ranked cmp xs);
     count = length-take k (ranked cmp xs) ∙ ap (min k) (length-ranked cmp xs);
-    in_order = IsSorted-Ascends (first_of cmp k xs) (Ascends-take cmp order k (ranked cmp xs) (Ascends-ranked cmp order xs));
+    in_order = IsSorted-Ascends (first_of cmp k xs)
+        (Ascends-take cmp order k (ranked cmp xs) (Ascends-ranked cmp order xs));
     comes_first = ComesUpTo-cut k (ranked cmp xs) (Ascends-ranked cmp order xs);
   }

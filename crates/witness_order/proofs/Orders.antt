@@ -1,11 +1,13 @@
 -- Shortlex and the order of entries are rankings, and joined lists keep them.
-use Rattle.std.proofs.Common.{◌≡◌, ℕ, ◌+◌, Bool, true, false, ℤ, pos, ◌+ℤ◌, List, [], ◌∷◌, ◌++◌, length, refl, sym, ap, ◌∙◌, arith, append_assoc, length-append}
+use Rattle.std.proofs.Common.{◌≡◌, ℕ, ◌+◌, Bool, true, false, ℤ, pos, ◌+ℤ◌, List, [], ◌∷◌, ◌++◌, length, refl, sym}
+use Rattle.std.proofs.Common.{ap, ◌∙◌, arith, append_assoc, length-append}
 use Rattle.std.proofs.lemmas.List.{append-nil}
 use Rattle.std.specs.declared.cmp.Ordering.{Ordering}
 use Rattle.std.specs.declared.cmp.Ordering.TheVariants.{Less, Equal, Greater}
 use Rattle.std.specs.Ordering.{ordering_then, nat_cmp, int_cmp, flip_args}
 use Rattle.std.specs.Cmp.Lexicographic.{slice_cmp}
-use Rattle.std.proofs.lemmas.Cmp.{ranked as nat_ranked, int_ranked, tied_itself, on_total, then_total, back_total, lists_total, nat_cmp_total, int_cmp_total}
+use Rattle.std.proofs.lemmas.Cmp.{ranked as nat_ranked, int_ranked, tied_itself, on_total, then_total, back_total}
+use Rattle.std.proofs.lemmas.Cmp.{lists_total, nat_cmp_total, int_cmp_total}
 use Rattle.std.proofs.lemmas.Bool.Decides.{nat_tests}
 use Rattle.std.proofs.lemmas.Int.{ints}
 use Rattle.shape_gen.specs.declared.mark.Mark.{Mark}
@@ -70,7 +72,13 @@ module _ {X : Type 0} {order : X → X → Ordering} (ranking : IsRanking order)
 
   shortlex_by-left : (xs ys zs : List X) → shortlex_by order (xs ++ ys) (xs ++ zs) ≡ shortlex_by order ys zs
   shortlex_by-left xs ys zs =
-      rw (length-append xs ys, length-append xs zs, nat_cmp-left (length xs) (length ys) (length zs), slice_cmp-left xs ys zs) refl
+      rw (
+        length-append xs ys,
+        length-append xs zs,
+        nat_cmp-left (length xs) (length ys) (length zs),
+        slice_cmp-left
+            xs ys zs,
+      ) refl
 
   shortlex_by-right : (xs ys zs : List X) → shortlex_by order (xs ++ zs) (ys ++ zs) ≡ shortlex_by order xs ys
   shortlex_by-right xs ys zs =
@@ -178,8 +186,10 @@ module _ {W M : Type 0} (totals : W → W → Ordering) (marks : M → M → Ord
       → KeepsRanking totals none sum → KeepsRanking marks empty join
       → KeepsRanking in_turn (none, empty) (λ c d. (sum c.0 d.0, join c.1 d.1))
   in_turn-KeepsRanking none sum empty join first second = record {
-    left_identity = λ c. same_pair (sum none c.0, join empty c.1) c (first.left_identity c.0) (second.left_identity c.1);
-    right_identity = λ c. same_pair (sum c.0 none, join c.1 empty) c (first.right_identity c.0) (second.right_identity c.1);
+    left_identity = λ c. same_pair (sum none c.0, join empty c.1) c (first.left_identity c.0)
+        (second.left_identity c.1);
+    right_identity = λ c. same_pair (sum c.0 none, join c.1 empty) c (first.right_identity c.0)
+        (second.right_identity c.1);
     associative = λ c d e.
         same_pair (sum (sum c.0 d.0) e.0, join (join c.1 d.1) e.1) (sum c.0 (sum d.0 e.0), join c.1 (join d.1 e.1))
         (first.associative c.0 d.0 e.0) (second.associative c.1 d.1 e.1);

@@ -1,5 +1,7 @@
 -- The account of a worker, turn by turn, and how it stops.
-use Rattle.std.proofs.Common.{◌≡◌, ◌≢◌, ℕ, ◌+◌, ◌-◌, ◌<◌, ◌≤◌, Bool, true, false, cond, List, [], ◌∷◌, ◌++◌, length, get_or, refl, ap, sym, subst, ◌∙◌, arith, append-nil, append_assoc, length-append, ◌⊎◌, inl, inr, ⊎_elim}
+use Rattle.std.proofs.Common.{◌≡◌, ◌≢◌, ℕ, ◌+◌, ◌-◌, ◌<◌, ◌≤◌, Bool, true, false, cond, List, [], ◌∷◌, ◌++◌, length}
+use Rattle.std.proofs.Common.{get_or, refl, ap, sym, subst, ◌∙◌, arith, append-nil, append_assoc, length-append, ◌⊎◌}
+use Rattle.std.proofs.Common.{inl, inr, ⊎_elim}
 use Rattle.std.specs.Prelude.{Option, Some, ◌↔◌, count_by}
 use Rattle.std.specs.List.{All, Contains}
 use Rattle.std.proofs.lemmas.List.{get_or_append_left}
@@ -43,17 +45,25 @@ module _ {W : Type 0} where
   second_has p q lo hi from to = (q, (1, omega arith, refl), from, to)
 
   module _ {F : Type 0} (rows : F → ℕ) (stands : F → ℕ → ℕ → W → Type 0) where
-    claims_held : (seat : SeatSeen F) (pocket : Pocket W) → IsInHand rows stands seat pocket → (c : Claim) → Contains seat.taken c → IsHeld (pieces_in pocket) c
+    claims_held : (seat : SeatSeen F) (pocket : Pocket W) → IsInHand rows stands seat pocket → (c : Claim)
+        → Contains seat.taken c → IsHeld (pieces_in pocket) c
     claims_held seat Empty in_hand c has = absurd (none_in c (subst (λ cs. Contains cs c) in_hand has))
     claims_held seat (Offer p) in_hand c has = absurd (none_in c (subst (λ cs. Contains cs c) in_hand.0 has))
     claims_held seat (Settle t value) in_hand c has =
-        subst (λ d. IsHeld (pieces_in (Settle t value)) d) (only_one c (claim_of t) (subst (λ cs. Contains cs c) in_hand.0 has))
+        subst (λ d. IsHeld (pieces_in (Settle t value)) d)
+        (only_one c (claim_of t) (subst (λ cs. Contains cs c) in_hand.0 has))
         (inr (first_has (piece_at t.left.lo t.right.hi value) [] t.left.lo t.right.hi refl refl))
     claims_held seat (Return t) in_hand c has =
-        subst (λ d. IsHeld (pieces_in (Return t)) d) (only_one c (claim_of t) (subst (λ cs. Contains cs c) in_hand.0 has))
-        (inl (first_has t.left (t.right ∷ []) t.left.lo t.left.hi refl refl, second_has t.left t.right t.left.hi t.right.hi (sym in_hand.1.adjoin) refl))
+        subst (λ d. IsHeld (pieces_in (Return t)) d)
+        (only_one c (claim_of t) (subst (λ cs. Contains cs c) in_hand.0 has))
+        (inl (
+          first_has t.left (t.right ∷ []) t.left.lo t.left.hi refl refl,
+          second_has t.left t.right t.left.hi
+              t.right.hi (sym in_hand.1.adjoin) refl,
+        ))
 
-    pub all_good : (plan : F) (seat : SeatSeen F) (pocket : Pocket W) → seat.plan ≡ Some plan → IsInHand rows stands seat pocket
+    pub all_good : (plan : F) (seat : SeatSeen F) (pocket : Pocket W) → seat.plan ≡ Some plan
+        → IsInHand rows stands seat pocket
         → All (IsGood (rows plan) (stands plan)) (pieces_in pocket)
     all_good plan seat Empty is in_hand = All-nil (IsGood (rows plan) (stands plan))
     all_good plan seat (Offer p) is in_hand =
@@ -65,33 +75,46 @@ module _ {W : Type 0} where
         let pair = subst (λ (pl : Option F). IsPair rows stands pl t) is in_hand.1 in
         let stand = subst (λ (pl : Option F). StandsIn stands pl t.left.lo t.right.hi value) is in_hand.2 in
         All-cons (IsGood (rows plan) (stands plan)) (piece_at t.left.lo t.right.hi value) []
-        (record { nonempty = omega (arith, pair.left_nonempty, pair.adjoin, pair.right_nonempty); within = pair.within; value_stands = stand })
+        (record {
+          nonempty = omega (arith, pair.left_nonempty, pair.adjoin, pair.right_nonempty);
+          within =
+              pair.within;
+          value_stands = stand;
+        })
         (All-nil (IsGood (rows plan) (stands plan)))
     all_good plan seat (Return t) is in_hand =
         let pair = subst (λ (pl : Option F). IsPair rows stands pl t) is in_hand.1 in
         let ends : t.right.hi ≤ rows plan = pair.within in
         All-cons (IsGood (rows plan) (stands plan)) t.left (t.right ∷ [])
-        (record { nonempty = pair.left_nonempty; within = omega (arith, ends, pair.adjoin, pair.right_nonempty); value_stands = pair.left_stands })
+        (record {
+          nonempty = pair.left_nonempty;
+          within = omega (arith, ends, pair.adjoin, pair.right_nonempty);
+          value_stands = pair.left_stands;
+        })
         (All-cons (IsGood (rows plan) (stands plan)) t.right []
         (record { nonempty = pair.right_nonempty; within = pair.within; value_stands = pair.right_stands })
         (All-nil (IsGood (rows plan) (stands plan))))
 
     -- the leaf that is still to be offered, seen by the pieces in hand
-    is_on_offer : (seat : SeatSeen F) (pocket : Pocket W) → IsInHand rows stands seat pocket → (lo hi : ℕ) → HasOffer pocket lo hi
+    is_on_offer : (seat : SeatSeen F) (pocket : Pocket W) → IsInHand rows stands seat pocket → (lo hi : ℕ)
+        → HasOffer pocket lo hi
         → IsOnOffer seat.taken (pieces_in pocket) lo hi
     is_on_offer seat Empty in_hand lo hi has = absurd has
     is_on_offer seat (Offer p) in_hand lo hi has = (in_hand.0, (p, refl, has.0, has.1))
     is_on_offer seat (Settle t value) in_hand lo hi has = absurd has
     is_on_offer seat (Return t) in_hand lo hi has = absurd has
 
-    has_offer : (seat : SeatSeen F) (pocket : Pocket W) → IsInHand rows stands seat pocket → (lo hi : ℕ) → IsOnOffer seat.taken (pieces_in pocket) lo hi
+    has_offer : (seat : SeatSeen F) (pocket : Pocket W) → IsInHand rows stands seat pocket → (lo hi : ℕ)
+        → IsOnOffer seat.taken (pieces_in pocket) lo hi
         → HasOffer pocket lo hi
     has_offer seat Empty in_hand lo hi (none, (p, is, from, to)) = let e : [] ≡ p ∷ [] = is in absurd cc
     has_offer seat (Offer q) in_hand lo hi (none, (p, is, from, to)) =
         let same : q ≡ p = ap (λ (ps : List (Piece W)). get_or ps 0 q) is in
         (ap (λ (r : Piece W). r.lo) same ∙ from, ap (λ (r : Piece W). r.hi) same ∙ to)
-    has_offer seat (Settle t value) in_hand lo hi (none, some) = let e : [] ≡ claim_of t ∷ [] = sym none ∙ in_hand.0 in absurd cc
-    has_offer seat (Return t) in_hand lo hi (none, some) = let e : [] ≡ claim_of t ∷ [] = sym none ∙ in_hand.0 in absurd cc
+    has_offer seat (Settle t value) in_hand lo hi (none, some) = let e : [] ≡ claim_of t ∷ [] = sym none
+        ∙ in_hand.0 in absurd cc
+    has_offer seat (Return t) in_hand lo hi (none, some) = let e : [] ≡ claim_of t ∷ [] = sym none
+        ∙ in_hand.0 in absurd cc
 
 module _ {F W : Type 0} (rows : F → ℕ) (stands : F → ℕ → ℕ → W → Type 0) (cut : List ℕ) (old : SeatSeen F) where
   -- how far a worker has come, with this in hand
@@ -101,7 +124,8 @@ module _ {F W : Type 0} (rows : F → ℕ) (stands : F → ℕ → ℕ → W →
     pub missed_are : worker.seat.missed ≡ old.missed + missed
     pub won : old.won ≤ worker.seat.won
 
-  pub begins : (worker : Worker F W) → old ≡ worker.seat → worker.seat.taken ≡ [] → worker.hand.view.taken ≡ [] → worker.pairs ≡ 0 → Working Empty 0 worker
+  pub begins : (worker : Worker F W) → old ≡ worker.seat → worker.seat.taken ≡ [] → worker.hand.view.taken ≡ []
+      → worker.pairs ≡ 0 → Working Empty 0 worker
   begins worker same claims none no_pair = record {
     account = record {
       gained = [];
@@ -128,19 +152,23 @@ module _ {F W : Type 0} (rows : F → ℕ) (stands : F → ℕ → ℕ → W →
         let lo = get_or cut y 0 in
         let hi = get_or cut (y + 1) 0 in
         ⊎_elim
-        (λ (kept : HasKept turn.ends.makes.gained new.seat.number lo hi). inl (Contains-append_right before.account.gained turn.ends.makes.gained _ kept))
-        (λ (has : HasOffer (left_by answer) lo hi). inr (is_on_offer rows stands new.seat (left_by answer) turn.ends.makes.in_hand lo hi has))
+        (λ (kept : HasKept turn.ends.makes.gained new.seat.number lo hi). inl
+        (Contains-append_right before.account.gained turn.ends.makes.gained _ kept))
+        (λ (has : HasOffer (left_by answer) lo hi). inr
+        (is_on_offer rows stands new.seat (left_by answer) turn.ends.makes.in_hand lo hi has))
         is
 
     -- a leaf that was accounted for still is
-    still : (k : ℕ) → k < length mid.hand.view.taken → IsAccounted cut gained new.seat (pieces_in (left_by answer)) (get_or mid.hand.view.taken k 0)
+    still : (k : ℕ) → k < length mid.hand.view.taken
+        → IsAccounted cut gained new.seat (pieces_in (left_by answer)) (get_or mid.hand.view.taken k 0)
     still k within =
         let y = get_or mid.hand.view.taken k 0 in
         let lo = get_or cut y 0 in
         let hi = get_or cut (y + 1) 0 in
         ⊎_elim
         (λ (kept : HasKept before.account.gained mid.seat.number lo hi).
-        inl (Contains-append_left before.account.gained turn.ends.makes.gained _ (subst (λ who. HasKept before.account.gained who lo hi) (sym number) kept)))
+        inl (Contains-append_left before.account.gained turn.ends.makes.gained _
+        (subst (λ who. HasKept before.account.gained who lo hi) (sym number) kept)))
         (λ (offer : IsOnOffer mid.seat.taken (pieces_in held) lo hi).
         delivered y (turn.ends.makes.offers lo hi (has_offer rows stands mid.seat held before.in_hand lo hi offer)))
         (before.account.leaves k (omega arith))
@@ -149,17 +177,22 @@ module _ {F W : Type 0} (rows : F → ℕ) (stands : F → ℕ → ℕ → W →
         → IsAccounted cut gained new.seat (pieces_in (left_by answer)) (get_or (mid.hand.view.taken ++ turn.leaves) k 0)
     accounted k within = ⊎_elim
         (λ (below : k < length mid.hand.view.taken).
-        subst (λ y. IsAccounted cut gained new.seat (pieces_in (left_by answer)) y) (sym (get_or_append_left mid.hand.view.taken turn.leaves 0 k below)) (still k below))
+        subst (λ y. IsAccounted cut gained new.seat (pieces_in (left_by answer)) y)
+        (sym (get_or_append_left mid.hand.view.taken turn.leaves 0 k below)) (still k below))
         (λ (above : length mid.hand.view.taken ≤ k).
         let place = k - length mid.hand.view.taken in
-        subst (λ y. IsAccounted cut gained new.seat (pieces_in (left_by answer)) y) (sym (get_or-append_right mid.hand.view.taken turn.leaves k 0 above))
-        (delivered (get_or turn.leaves place 0) (turn.delivered place (omega (arith, length-append mid.hand.view.taken turn.leaves)))))
+        subst (λ y. IsAccounted cut gained new.seat (pieces_in (left_by answer)) y)
+        (sym (get_or-append_right mid.hand.view.taken turn.leaves k 0 above))
+        (delivered (get_or turn.leaves place 0)
+        (turn.delivered place (omega (arith, length-append mid.hand.view.taken turn.leaves)))))
         (below_or_not k (length mid.hand.view.taken))
 
-    pub account_after : (more : ℕ) → loses answer ≤ more → WorkAccount cut old new.seat new.hand.view (pieces_in (left_by answer)) new.pairs more
+    pub account_after : (more : ℕ) → loses answer ≤ more
+        → WorkAccount cut old new.seat new.hand.view (pieces_in (left_by answer)) new.pairs more
     account_after more enough = record {
       gained = gained;
-      mine = turn.ends.makes.mine ∙ ap (λ es. es ++ turn.ends.makes.gained) before.account.mine ∙ append_assoc old.mine before.account.gained turn.ends.makes.gained;
+      mine = turn.ends.makes.mine ∙ ap (λ es. es ++ turn.ends.makes.gained) before.account.mine
+          ∙ append_assoc old.mine before.account.gained turn.ends.makes.gained;
       pairs_are = omega (
         arith,
         sum_by-append (λ e. cond (is_pair e) 1 0) before.account.gained turn.ends.makes.gained,
@@ -180,7 +213,8 @@ module _ {F W : Type 0} (rows : F → ℕ) (stands : F → ℕ → ℕ → W →
     }
 
     -- a turn that loses nothing
-    pub goes_on : (missed' : ℕ) → missed + misses answer ≡ missed' → loses answer ≡ 0 → Working (left_by answer) missed' new
+    pub goes_on : (missed' : ℕ) → missed + misses answer ≡ missed' → loses answer ≡ 0
+        → Working (left_by answer) missed' new
     goes_on missed' misses_are none_lost = record {
       account = account_after 0 (omega arith);
       in_hand = turn.ends.makes.in_hand;
@@ -189,7 +223,8 @@ module _ {F W : Type 0} (rows : F → ℕ) (stands : F → ℕ → ℕ → W →
     }
 
     -- a turn that ends the worker
-    pub stops : (end : WorkEnd) → loses answer ≤ lost end → WorkEnds old new.seat new.hand.view (pieces_in (left_by answer)) end
+    pub stops : (end : WorkEnd) → loses answer ≤ lost end
+        → WorkEnds old new.seat new.hand.view (pieces_in (left_by answer)) end
         → (end ≡ ending.Idle) ↔ (missed + misses answer ≡ 1000000) → Stops rows stands cut old (left_by answer) end new
     stops end enough ends idle = record {
       account = account_after (lost end) enough;
@@ -224,10 +259,12 @@ few_of test es =
     one_at_most false = omega arith
 
 -- the pairs of an account are among the seat's entries
-pub pairs_within : {F W : Type 0} (cut : List ℕ) (old new : SeatSeen F) (hand : View) (pocket : List (Piece W)) (pairs lost : ℕ)
+pub pairs_within : {F W : Type 0} (cut : List ℕ) (old new : SeatSeen F) (hand : View) (pocket : List (Piece W))
+    (pairs lost : ℕ)
     → WorkAccount cut old new hand pocket pairs lost → pairs ≤ length new.mine
 pairs_within cut old new hand pocket pairs lost account =
-    let grown : length new.mine ≡ length old.mine + length account.gained = ap (λ es. length es) account.mine ∙ length-append old.mine account.gained in
+    let grown : length new.mine ≡ length old.mine + length account.gained = ap (λ es. length es) account.mine
+    ∙ length-append old.mine account.gained in
     omega (arith, few_of is_pair account.gained, account.pairs_are)
 
 pub same_seat_on : {F : Type 0} (a b c : SeatSeen F) → IsSameSeat a b → IsSameSeat b c → IsSameSeat a c
@@ -242,7 +279,16 @@ same_seat_on a b c first second = record {
 }
 
 pub same_seat : {F : Type 0} (a : SeatSeen F) → IsSameSeat a a
-same_seat a = record { table = refl; plan = refl; rows = refl; room = refl; callers = refl; number = refl; spare = refl }
+same_seat a = record {
+  table = refl;
+  plan = refl;
+  rows = refl;
+  room = refl;
+  callers = refl;
+  number = refl;
+  spare =
+      refl;
+}
 
 -- a worker that has no room for a pocket
 module _ {F W : Type 0} (cut : List ℕ) (old : SeatSeen F) (hand : View) where

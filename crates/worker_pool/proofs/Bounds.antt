@@ -1,5 +1,6 @@
 -- Bounds that rise, and tests on them.
-use Rattle.std.proofs.Common.{◌≡◌, ◌≢◌, ℕ, zero, suc, ◌+◌, ◌-◌, ◌<◌, ◌≤◌, ◌==◌, List, length, get_or, Result, Ok, Err, MatchOption, Bool, true, false, ◌&&◌, refl, ap, arith, nat_lt, ◌⊎◌, inl, inr, ⊎_elim}
+use Rattle.std.proofs.Common.{◌≡◌, ◌≢◌, ℕ, zero, suc, ◌+◌, ◌-◌, ◌<◌, ◌≤◌, ◌==◌, List, length, get_or, Result, Ok, Err}
+use Rattle.std.proofs.Common.{MatchOption, Bool, true, false, ◌&&◌, refl, ap, arith, nat_lt, ◌⊎◌, inl, inr, ⊎_elim}
 use Rattle.std.specs.Result.{result_ok}
 use Rattle.std.specs.Ordering.{nat_cmp}
 use Rattle.std.specs.List.Sorted.{IsStrictlyIncreasing, IsBinarySearchResult}
@@ -40,7 +41,13 @@ module _ (xs : List ℕ) (rises : IsStrictlyIncreasing xs) where
       omega (arith, rises i (omega arith), ap (λ k. get_or xs k 0) next)
   rising_by (suc d) i j e h =
       let next : j ≡ i + d + 1 + 1 = omega arith in
-      omega (arith, rising_by d i (i + d + 1) refl (omega arith), rises (i + d + 1) (omega arith), ap (λ k. get_or xs k 0) next)
+      omega (
+        arith,
+        rising_by d i (i + d + 1) refl (omega arith),
+        rises (i + d + 1) (omega arith),
+        ap
+            (λ k. get_or xs k 0) next,
+      )
 
   pub rising : (i j : ℕ) → i < j → j < length xs → get_or xs i 0 < get_or xs j 0
   rising i j l h = rising_by (j - i - 1) i j (omega arith) h
@@ -62,12 +69,14 @@ module _ (xs : List ℕ) (rises : IsStrictlyIncreasing xs) where
 
   -- what a search for a bound finds
   pub index_found : (x : ℕ) (r : Result ℕ ℕ) → IsBinarySearchResult (λ y. nat_cmp y x) xs r
-      → MatchOption (result_ok r) ((j : ℕ) → j < length xs → get_or xs j 0 ≢ x) (λ j. (j < length xs) × (get_or xs j 0 ≡ x))
+      → MatchOption (result_ok r) ((j : ℕ) → j < length xs → get_or xs j 0 ≢ x)
+      (λ j. (j < length xs) × (get_or xs j 0 ≡ x))
   index_found x (Ok i) h = searched xs x (Ok i) h not_falling
   index_found x (Err i) h =
       let s = searched xs x (Err i) h not_falling in
       λ j within same.
-      ⊎_elim (λ (below : j < i). absurd (omega (arith, s.1 j below))) (λ (above : i ≤ j). absurd (omega (arith, s.2 j above within)))
+      ⊎_elim (λ (below : j < i). absurd (omega (arith, s.1 j below)))
+      (λ (above : i ≤ j). absurd (omega (arith, s.2 j above within)))
       (below_or_not j i)
 
 -- a leaf of a cut has rows, all within the cut's
@@ -75,5 +84,9 @@ pub leaf_within : (rows : ℕ) (bounds : List ℕ) → IsCut rows bounds → (nu
     → (get_or bounds number 0 < get_or bounds (number + 1) 0) × (get_or bounds (number + 1) 0 ≤ rows)
 leaf_within rows bounds cut number within = (
   rising bounds cut.rises number (number + 1) (omega arith) within,
-  omega (arith, not_falling bounds cut.rises (number + 1) (length bounds - 1) (omega arith) (omega arith), get_or_from_slice_get bounds (length bounds - 1) rows 0 cut.ends),
+  omega (
+    arith,
+    not_falling bounds cut.rises (number + 1) (length bounds - 1) (omega arith) (omega arith),
+    get_or_from_slice_get bounds (length bounds - 1) rows 0 cut.ends,
+  ),
 )

@@ -1,5 +1,6 @@
 -- Leaves that are taken: each is new, and they are no more than were dealt.
-use Rattle.std.proofs.Common.{◌≡◌, ◌≢◌, ℕ, zero, suc, ◌+◌, ◌<◌, ◌≤◌, ◌==◌, nat_lt, Bool, cond, List, [], ◌∷◌, ◌++◌, length, refl, ap, sym, subst, ◌∙◌, arith, ⊎_elim}
+use Rattle.std.proofs.Common.{◌≡◌, ◌≢◌, ℕ, zero, suc, ◌+◌, ◌<◌, ◌≤◌, ◌==◌, nat_lt, Bool, cond, List, [], ◌∷◌, ◌++◌}
+use Rattle.std.proofs.Common.{length, refl, ap, sym, subst, ◌∙◌, arith, ⊎_elim}
 use Rattle.std.specs.Prelude.{count_by}
 use Rattle.std.specs.List.{All}
 use Rattle.std.proofs.lemmas.List.Sums.{sum_by-cons}
@@ -18,10 +19,17 @@ use Rattle.worker_pool.proofs.Bounds.{same_or_not}
 -- a leaf that is given was with no hand before
 not_yet_taken : (v : View) (b y : ℕ) → IsLowestLeft v b y → copies y v.taken ≡ 0
 not_yet_taken v b y lowest =
-    let left = lowest.others_left y (let n = lowest.is_next in let w = lowest.within in (omega arith, omega arith)) (omega arith) in
-    omega (arith, left, part-le-sum_by (λ u. copies y u.taken) lowest.before.blocks.views lowest.before.place v lowest.before.hand)
+    let left = lowest.others_left y (let n = lowest.is_next in let w = lowest.within in (omega arith, omega arith))
+    (omega arith) in
+    omega (
+      arith,
+      left,
+      part-le-sum_by (λ u. copies y u.taken) lowest.before.blocks.views lowest.before.place v
+          lowest.before.hand,
+    )
 
-pub leaf_taken : (u v w : View) (b y : ℕ) → v.taken ≡ u.taken → v.number ≡ u.number → v.partition ≡ u.partition → Draws v b (drawn.Leaf y) w → TakesLeaf u y w
+pub leaf_taken : (u v w : View) (b y : ℕ) → v.taken ≡ u.taken → v.number ≡ u.number → v.partition ≡ u.partition
+    → Draws v b (drawn.Leaf y) w → TakesLeaf u y w
 leaf_taken u v w b y taken number partition given = record {
   joins = taken_grown v w b y given ∙ ap (λ ys. ys ++ y ∷ []) taken;
   below = subst (λ p. y < p.count) partition given.below;
@@ -40,7 +48,8 @@ pub record StillLooks (u v : View) (blocks : ℕ) : Type 0 where
   pub partition : v.partition ≡ u.partition
   pub met : (b : ℕ) → b < blocks → HasMet v b
 
-pub looked_further : (u v w : View) (b : ℕ) (r : Drawn) → StillLooks u v b → ((y : ℕ) → r ≡ drawn.Leaf y → ⊥) → Draws v b r w → StillLooks u w (b + 1)
+pub looked_further : (u v w : View) (b : ℕ) (r : Drawn) → StillLooks u v b → ((y : ℕ) → r ≡ drawn.Leaf y → ⊥)
+    → Draws v b r w → StillLooks u w (b + 1)
 looked_further u v w b r looks never given =
     let none : Draws v b drawn.Empty w = subst (λ d. Draws v b d w) (not_leaf r never) given in
     record {
@@ -67,11 +76,13 @@ pub dealt_with_leaf : (v w : View) (y : ℕ) → w.partition ≡ v.partition →
 dealt_with_leaf v w y partition took dealt = record {
   once = λ x. subst (λ ys. copies x ys ≤ 1) (sym took.joins)
       (⊎_elim
-      (λ (same : y ≡ x). subst (λ z. copies z (v.taken ++ y ∷ []) ≤ 1) same (omega (arith, copies_push-same y v.taken, took.not_taken)))
+      (λ (same : y ≡ x). subst (λ z. copies z (v.taken ++ y ∷ []) ≤ 1) same
+      (omega (arith, copies_push-same y v.taken, took.not_taken)))
       (λ (other : y ≢ x). omega (arith, copies_push-other x y v.taken other, dealt.once x))
       (same_or_not y x));
   below = subst (λ p. All (λ z. z < p.count) w.taken) (sym partition)
-      (subst (λ ys. All (λ z. z < v.partition.count) ys) (sym took.joins) (All-push (λ z. z < v.partition.count) v.taken y dealt.below took.below));
+      (subst (λ ys. All (λ z. z < v.partition.count) ys) (sym took.joins)
+      (All-push (λ z. z < v.partition.count) v.taken y dealt.below took.below));
 }
 
 abbrev one_if : Bool → ℕ
@@ -89,7 +100,12 @@ below_more n [] = refl
 below_more n (x ∷ xs) =
     let rest = below_more n xs in
     let here = one_step n x in
-    omega (arith, sum_by-cons (λ y. cond (nat_lt y (suc n)) 1 0) x xs, sum_by-cons (λ y. cond (nat_lt y n) 1 0) x xs, sum_by-cons (λ y. cond (y == n) 1 0) x xs)
+    omega (
+      arith,
+      sum_by-cons (λ y. cond (nat_lt y (suc n)) 1 0) x xs,
+      sum_by-cons (λ y. cond (nat_lt y n) 1 0) x xs,
+      sum_by-cons (λ y. cond (y == n) 1 0) x xs,
+    )
 
 below_none : (xs : List ℕ) → below_count 0 xs ≡ 0
 below_none [] = refl
@@ -111,10 +127,12 @@ all_below n (x ∷ xs) below =
     omega (arith, sum_by-cons (λ y. cond (nat_lt y n) 1 0) x xs)
 
 pub few_taken : (v : View) → AreDealt v → length v.taken ≤ v.partition.count
-few_taken v dealt = omega (arith, few_below v.partition.count v.taken dealt.once, all_below v.partition.count v.taken dealt.below)
+few_taken v dealt = omega
+    (arith, few_below v.partition.count v.taken dealt.once, all_below v.partition.count v.taken dealt.below)
 
 pub dealt_still : (v w : View) → w.partition ≡ v.partition → w.taken ≡ v.taken → AreDealt v → AreDealt w
 dealt_still v w partition taken dealt = record {
   once = subst (λ ys. (x : ℕ) → copies x ys ≤ 1) (sym taken) dealt.once;
-  below = subst (λ p. All (λ z. z < p.count) w.taken) (sym partition) (subst (λ ys. All (λ z. z < v.partition.count) ys) (sym taken) dealt.below);
+  below = subst (λ p. All (λ z. z < p.count) w.taken) (sym partition)
+      (subst (λ ys. All (λ z. z < v.partition.count) ys) (sym taken) dealt.below);
 }

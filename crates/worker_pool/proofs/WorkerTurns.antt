@@ -30,7 +30,8 @@ if_drained (turn.Unreturned t) P is = tt
 
 module _ {F W : Type 0} where
   -- a worker whose seat alone has changed
-  pub seat_at_work : (site : Site F W) (old new : Worker F W) → IsAtWork site old → IsReady site.board.now new.seat → IsSameSeat old.seat new.seat
+  pub seat_at_work : (site : Site F W) (old new : Worker F W) → IsAtWork site old → IsReady site.board.now new.seat
+      → IsSameSeat old.seat new.seat
       → new.hand ≡ old.hand → new.leaves ≡ old.leaves → IsAtWork site new
   seat_at_work site old new at_work ready same hand leaves = record {
     ready = ready;
@@ -41,8 +42,10 @@ module _ {F W : Type 0} where
   }
 
   module _ (rows : F → ℕ) (stands : F → ℕ → ℕ → W → Type 0) (cut : List ℕ) (old new : Worker F W) where
-    pub without_leaf : (before : Pocket W) (answer : Turn W) (pairs : ℕ) → new.pairs ≡ old.pairs + pairs → new.hand.view.taken ≡ old.hand.view.taken
-        → IfDrained answer (HasMetAll new.hand.view) → TurnEnds rows stands old.seat before pairs answer new.seat → TakesTurn rows stands cut old before answer new
+    pub without_leaf : (before : Pocket W) (answer : Turn W) (pairs : ℕ) → new.pairs ≡ old.pairs + pairs
+        → new.hand.view.taken ≡ old.hand.view.taken
+        → IfDrained answer (HasMetAll new.hand.view) → TurnEnds rows stands old.seat before pairs answer new.seat
+        → TakesTurn rows stands cut old before answer new
     without_leaf before answer pairs more taken met ends = record {
       pairs = pairs;
       pairs_are = more;
@@ -53,8 +56,10 @@ module _ {F W : Type 0} where
       met = met;
     }
 
-    pub with_leaf : (y : ℕ) (answer : Turn W) → new.pairs ≡ old.pairs → new.hand.view.taken ≡ old.hand.view.taken ++ y ∷ [] → IsNotDrained answer
-        → LeafEnds rows stands old.seat (get_or cut y 0) (get_or cut (y + 1) 0) answer new.seat → TakesTurn rows stands cut old Empty answer new
+    pub with_leaf : (y : ℕ) (answer : Turn W) → new.pairs ≡ old.pairs
+        → new.hand.view.taken ≡ old.hand.view.taken ++ y ∷ [] → IsNotDrained answer
+        → LeafEnds rows stands old.seat (get_or cut y 0) (get_or cut (y + 1) 0) answer new.seat
+        → TakesTurn rows stands cut old Empty answer new
     with_leaf y answer same taken not_drained leaf = record {
       pairs = 0;
       pairs_are = omega (arith, same);
@@ -63,13 +68,15 @@ module _ {F W : Type 0} where
       taken = taken;
       delivered = λ k within.
           let first : k ≡ 0 = omega arith in
-          subst (λ n. IsDelivered cut leaf.ends.makes.gained new.seat.number (left_by answer) (get_or (y ∷ []) n 0)) (sym first) (leaf.accounted (omega arith));
+          subst (λ n. IsDelivered cut leaf.ends.makes.gained new.seat.number (left_by answer) (get_or (y ∷ []) n 0))
+          (sym first) (leaf.accounted (omega arith));
       met = undrained answer (HasMetAll new.hand.view) not_drained;
     }
 
     -- the hand found no leaf before
     pub after_no_leaf : (hand : HandSeen) (answer : Turn W) → hand.view.taken ≡ old.hand.view.taken
-        → TakesTurn rows stands cut (record old { hand = hand }) Empty answer new → TakesTurn rows stands cut old Empty answer new
+        → TakesTurn rows stands cut (record old { hand = hand }) Empty answer new
+        → TakesTurn rows stands cut old Empty answer new
     after_no_leaf hand answer taken turn = record {
       pairs = turn.pairs;
       pairs_are = turn.pairs_are;

@@ -1,4 +1,5 @@
-use Rattle.std.proofs.Common.{to_z, of_z, w64, ◌≡◌, ℕ, ◌≤◌, List, [], ◌∷◌, ◌++◌, Bool, true, false, nat_eq, cond, Option, Some, None, ℤ, sym, ap, subst, ◌∙◌, arith}
+use Rattle.std.proofs.Common.{to_z, of_z, w64, ◌≡◌, ℕ, ◌≤◌, List, [], ◌∷◌, ◌++◌, Bool, true, false, nat_eq, cond}
+use Rattle.std.proofs.Common.{Option, Some, None, ℤ, sym, ap, subst, ◌∙◌, arith}
 use Rattle.std.specs.Prelude.{unsigned_abs}
 use Rattle.std.proofs.lemmas.Int.{ints}
 use Rattle.semiring_kit.specs.MaxPlus.{max_plus}
@@ -38,8 +39,10 @@ returns c =
     let second : Slot (Option ℤ) = record { key = 2; elem = Some y } in
     let items : c.push-2.new.self.items ≡ two x y =
     c.in_ok-push-2.ensures.items
-    ∙ ap (λ slots. slots ++ second ∷ []) (c.in_ok-push.ensures.items ∙ ap (λ slots. slots ++ first ∷ []) c.in_ok-slots.ensures.items) in
+    ∙ ap (λ slots. slots ++ second ∷ [])
+    (c.in_ok-push.ensures.items ∙ ap (λ slots. slots ++ first ∷ []) c.in_ok-slots.ensures.items) in
     record {
       fits = subst (FitsSlots max_plus 0 3) (sym items) (two-fit x y x_small y_small);
-      small = subst (λ slots. (k : ℕ) → max_plus.reach (value_in max_plus.zero slots k) ≤ 2147483648) (sym items) (two-small x y x_small y_small);
+      small = subst (λ slots. (k : ℕ) → max_plus.reach (value_in max_plus.zero slots k) ≤ 2147483648) (sym items)
+          (two-small x y x_small y_small);
     }

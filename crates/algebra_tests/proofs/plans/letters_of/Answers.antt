@@ -1,4 +1,5 @@
-use Rattle.std.proofs.Common.{◌≡◌, rules, refl, sym, ap, ◌∙◌, subst, inl, inr, ℕ, zero, suc, ◌+◌, ◌*◌, ◌<◌, ◌≤◌, List, [], ◌∷◌, ◌++◌, ℤ, unsigned_abs, w64, to_z, of_z, SFits, arith}
+use Rattle.std.proofs.Common.{◌≡◌, rules, refl, sym, ap, ◌∙◌, subst, inl, inr, ℕ, zero, suc, ◌+◌, ◌*◌, ◌<◌, ◌≤◌, List}
+use Rattle.std.proofs.Common.{[], ◌∷◌, ◌++◌, ℤ, unsigned_abs, w64, to_z, of_z, SFits, arith}
 use Rattle.std.proofs.lemmas.Int.{ints, to_z-of_z}
 use Rattle.monoid_kit.specs.Items.{AllElements}
 use Rattle.monoid_kit.proofs.Items.{AllElements-append}
@@ -11,7 +12,8 @@ use Rattle.algebra_tests.proofs.plans.letters_of.Goals as goal
 more : {E X : Type 0} (is_element : E → Type 0) (f : X → E) (old new : List X) (x : X) → new ≡ old ++ x ∷ []
     → AllElements is_element f old → is_element (f x) → AllElements is_element f new
 more is_element f old new x is in_old in_x =
-    subst (AllElements is_element f) (sym is) (AllElements-append is_element f old (x ∷ []) in_old (λ y y_in. elim y_in [
+    subst (AllElements is_element f) (sym is)
+    (AllElements-append is_element f old (x ∷ []) in_old (λ y y_in. elim y_in [
       | inl same ↦ subst (λ z. is_element (f z)) (sym same) in_x
       | inr later ↦ absurd later
     ]))
@@ -24,7 +26,8 @@ greatest-within f bound (suc n) within =
     omega arith
 
 module _ {E : Type 0} {r : SemiringOn E} (laws : IsSemiring r) where
-  elem-near : (letters : List (Letter E)) (place : ℕ) → AllElements (λ elem. r.reach elem ≤ 32768) (λ letter. letter.elem) letters
+  elem-near : (letters : List (Letter E)) (place : ℕ)
+      → AllElements (λ elem. r.reach elem ≤ 32768) (λ letter. letter.elem) letters
       → r.reach (elem_at r.one letters place) ≤ 32768
   elem-near [] place near = let none : r.reach r.one ≡ 0 = laws.one_reach in omega arith
   elem-near (letter ∷ letters) zero near = near letter (inl refl)
@@ -48,7 +51,8 @@ module _ {E : Type 0} (r : SemiringOn E) (of_mark : Mark → ℤ → E)
     (is : elem ≡ of_mark mark (to_z w64 (of_z w64 weight))) (small : unsigned_abs weight ≤ 32768) where
   mark-near : r.reach elem ≤ 32768
   mark-near =
-      let same : r.reach elem ≡ r.reach (of_mark mark weight) = ap r.reach (is ∙ ap (of_mark mark) (to_z-of_z w64 weight fits)) in
+      let same : r.reach elem ≡ r.reach (of_mark mark weight) = ap r.reach
+      (is ∙ ap (of_mark mark) (to_z-of_z w64 weight fits)) in
       let far : r.reach (of_mark mark weight) ≤ unsigned_abs weight = reach mark weight in
       omega arith
 
@@ -71,13 +75,16 @@ loop-value-preserved g c =
       keys = more (λ key. key < c.args.size) (λ letter. letter.key) old new _ is c.loop-value.invariant.keys
           (let least = c.min.ensures in search rules);
       good = more (IsGood r) (λ letter. letter.elem) old new _ is c.loop-value.invariant.good
-          (mark-good r (g.S.Semiring.of_mark c.args.kit.now) (g.met.S.Semiring.mark_is_sound c.args.kit.now) (g.met.S.Semiring.mark_reach c.args.kit.now)
+          (mark-good r (g.S.Semiring.of_mark c.args.kit.now) (g.met.S.Semiring.mark_is_sound c.args.kit.now)
+          (g.met.S.Semiring.mark_reach c.args.kit.now)
           c.in_ok-elem.elem _ c.from.result fits c.in_ok-elem.ensures small);
       near = more (λ elem. r.reach elem ≤ 32768) (λ letter. letter.elem) old new _ is c.loop-value.invariant.near
-          (mark-near r (g.S.Semiring.of_mark c.args.kit.now) (g.met.S.Semiring.mark_is_sound c.args.kit.now) (g.met.S.Semiring.mark_reach c.args.kit.now)
+          (mark-near r (g.S.Semiring.of_mark c.args.kit.now) (g.met.S.Semiring.mark_is_sound c.args.kit.now)
+          (g.met.S.Semiring.mark_reach c.args.kit.now)
           c.in_ok-elem.elem _ c.from.result fits c.in_ok-elem.ensures small);
     }
 
 pub returns-clause-near : goal.returns-clause-near
 returns-clause-near g c = λ labels rows.
-    rows-near (g.met.S.Semiring.laws c.args.kit.now) labels c.loop-value.letters.items 0 rows c.loop-value.invariant.near
+    rows-near (g.met.S.Semiring.laws c.args.kit.now) labels c.loop-value.letters.items 0 rows
+    c.loop-value.invariant.near

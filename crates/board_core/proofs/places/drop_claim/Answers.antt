@@ -8,7 +8,12 @@ use Rattle.board_core.proofs.places.drop_claim.Goals as goal
 stands : (c : goal.After-remove-claim) → c.place-at.result < deque_len c.args.claims.now
 stands c =
     let filled = c.args.claims.now.ok in
-    omega (arith, c.place-at.ensures.index, claim_within c.args.claim c.args.claims.now.items c.requires.rises c.requires.is_open)
+    omega (
+      arith,
+      c.place-at.ensures.index,
+      claim_within c.args.claim c.args.claims.now.items c.requires.rises
+          c.requires.is_open,
+    )
 
 -- what the remove says where it finds a claim
 found : (c : goal.After-remove-claim) (P : Type 0) → OnSome c.remove-claim.result P → P
@@ -18,9 +23,11 @@ found c P told =
 
 pub returns-clause-items : goal.returns-clause-items
 returns-clause-items c =
-    found c (c.remove-claim.new.self.items ≡ remove c.args.claims.now.items c.place-at.result) c.remove-claim.ensures.items
+    found c (c.remove-claim.new.self.items ≡ remove c.args.claims.now.items c.place-at.result)
+    c.remove-claim.ensures.items
     ∙ ap (λ i. remove c.args.claims.now.items i) c.place-at.ensures.index
     ∙ remove_claim c.args.claim c.args.claims.now.items c.requires.rises c.requires.is_open
 
 pub returns-clause-len : goal.returns-clause-len
-returns-clause-len c = found c (deque_len c.remove-claim.new.self + 1 ≡ deque_len c.args.claims.now) c.remove-claim.ensures.len
+returns-clause-len c = found c (deque_len c.remove-claim.new.self + 1 ≡ deque_len c.args.claims.now)
+    c.remove-claim.ensures.len

@@ -1,7 +1,10 @@
 use Rattle.std.proofs.Common.{◌-◌, arith, ap, sym}
 use Rattle.board_core.proofs.PlaceLemmas.{apart_rises, all_clear, meets_before, meets_at, item_is}
 use Rattle.board_core.proofs.places.lies_clear.Goals as goal
-use Rattle.board_core.proofs.places.lies_clear.Goals.{else-at-gt0-via-then-at-gt0+else-lo-hi, else-at-gt0-via-else-at-gt0, else-at-len-via-then-at-len+else-lo-hi-2, else-at-len-via-else-at-len}
+use Rattle.board_core.proofs.places.lies_clear.Goals.{else-at-gt0-via-then-at-gt0+else-lo-hi}
+use Rattle.board_core.proofs.places.lies_clear.Goals.{else-at-gt0-via-else-at-gt0}
+use Rattle.board_core.proofs.places.lies_clear.Goals.{else-at-len-via-then-at-len+else-lo-hi-2}
+use Rattle.board_core.proofs.places.lies_clear.Goals.{else-at-len-via-else-at-len}
 
 pub place-at-requires : goal.place-at-requires
 place-at-requires g c = apart_rises g.I.Interval.lo g.I.Interval.hi c.args.intervals.now.items c.requires.apart
@@ -33,7 +36,8 @@ returns g c =
             arith,
             w.if-lo-hi.false,
             w.hi.ensures,
-            ap g.I.Interval.hi (item_is xs (c.place-at.result - 1) w.index.result.now d (omega (arith, c.place-at.ensures.bound)) w.index.ensures),
+            ap g.I.Interval.hi (item_is xs (c.place-at.result - 1) w.index.result.now d
+                (omega (arith, c.place-at.ensures.bound)) w.index.ensures),
           )
       | else-at-gt0-via-else-at-gt0 w ↦ absurd (omega (arith, w.if-at-gt0.false))
     ])
@@ -43,7 +47,8 @@ returns g c =
             arith,
             w.if-lo-hi-2.false,
             w.lo.ensures,
-            ap g.I.Interval.lo (item_is xs c.place-at.result w.index-then-at-len.result.now d within w.index-then-at-len.ensures),
+            ap g.I.Interval.lo (item_is xs c.place-at.result w.index-then-at-len.result.now d within
+                w.index-then-at-len.ensures),
           )
       | else-at-len-via-else-at-len w ↦ absurd (omega (arith, w.if-at-len.false))
     ]))

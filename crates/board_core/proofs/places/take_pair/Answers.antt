@@ -6,14 +6,22 @@ use Rattle.board_core.proofs.places.take_pair.Goals as goal
 pub unreachable-requires : goal.unreachable-requires
 unreachable-requires g c =
     let filled = c.args.held.now.ok in
-    let none : false ≡ true = c.in_default.ensures.variant.1 (omega (arith, c.requires.place, pair_within c.args.held.now.items c.requires.found)) in
+    let none : false ≡ true = c.in_default.ensures.variant.1
+    (omega (arith, c.requires.place, pair_within c.args.held.now.items c.requires.found)) in
     cc
 
 pub unreachable-requires-in_default-remove : goal.unreachable-requires-in_default-remove
 unreachable-requires-in_default-remove g c =
     let filled = c.args.held.now.ok in
     let none : false ≡ true =
-    c.in_default-remove.ensures.variant.1 (omega (arith, c.requires.place, c.in-Some.ensures.len, pair_within c.args.held.now.items c.requires.found)) in
+    c.in_default-remove.ensures.variant.1
+    (omega (
+      arith,
+      c.requires.place,
+      c.in-Some.ensures.len,
+      pair_within c.args.held.now.items
+          c.requires.found,
+    )) in
     cc
 
 pub returns-clause-pair : goal.returns-clause-pair

@@ -5,9 +5,11 @@ use Rattle.fuse_core.proofs.finishing.finish.Goals as goal
 pub returns-then-ending : goal.returns-then-ending
 returns-then-ending g c =
     rw (← c.plan.view_is) (if_ok-then _ _
-    (finish-with_empty (g.met.K.Kit.Semiring.laws (g.K.MapKit.kit c.plan.inside.kit)) (g.met.K.Keys.Monoid.laws (g.K.MapKit.keys c.plan.inside.kit))
+    (finish-with_empty (g.met.K.Kit.Semiring.laws (g.K.MapKit.kit c.plan.inside.kit))
+    (g.met.K.Keys.Monoid.laws (g.K.MapKit.keys c.plan.inside.kit))
     (g.K.MapKit.fits c.plan.inside.kit) (g.K.MapKit.value_at c.plan.inside.kit)
-    c.plan.inside.shape c.plan.inside.rows c.plan.inside.labels c.plan.inside.letters.items c.plan.invariant c.args.accept.now
+    c.plan.inside.shape c.plan.inside.rows c.plan.inside.labels c.plan.inside.letters.items c.plan.invariant
+    c.args.accept.now
     c.args.value.now.maps.items (rw (← c.plan.view_is) at c.requires.stands)
     c.index.result.now (rw c.ending_of-ending.ensures at c.index.ensures) c.in_ok-sum.sum
     c.in_ok-sum.ensures.value (rw c.ending_of-ending.ensures at c.if-ending.true))
@@ -15,9 +17,12 @@ returns-then-ending g c =
 
 pub returns-else-ending : goal.returns-else-ending
 returns-else-ending g c =
-    rw (← c.plan.view_is) (finish-as_it_is (g.met.K.Kit.Semiring.laws (g.K.MapKit.kit c.plan.inside.kit)) (g.met.K.Keys.Monoid.laws (g.K.MapKit.keys c.plan.inside.kit))
+    rw (← c.plan.view_is)
+    (finish-as_it_is (g.met.K.Kit.Semiring.laws (g.K.MapKit.kit c.plan.inside.kit))
+    (g.met.K.Keys.Monoid.laws (g.K.MapKit.keys c.plan.inside.kit))
     (g.K.MapKit.fits c.plan.inside.kit) (g.K.MapKit.value_at c.plan.inside.kit)
-    c.plan.inside.shape c.plan.inside.rows c.plan.inside.labels c.plan.inside.letters.items c.plan.invariant c.args.accept.now
+    c.plan.inside.shape c.plan.inside.rows c.plan.inside.labels c.plan.inside.letters.items c.plan.invariant
+    c.args.accept.now
     c.args.value.now.maps.items (rw (← c.plan.view_is) at c.requires.stands)
     c.index.result.now (rw c.ending_of-ending.ensures at c.index.ensures) c.in_ok-sum.sum
     c.in_ok-sum.ensures.value (rw c.ending_of-ending.ensures at c.if-ending.false))

@@ -5,9 +5,11 @@ use Rattle.monoid_kit.proofs.Items.{IsIn-read}
 use Rattle.shape_gen.specs.Candidates.{mark}
 use Rattle.fuse_core.specs.declared.wiring.Growth.TheVariants.{Kept, Before}
 use Rattle.fuse_core.specs.Wirings.{growth_lists, shifts}
-use Rattle.fuse_core.proofs.Placed.{stands, behind-at, behind-all, flat_map-pushed, shifts-pushed, shifts-take, cost-more, cost-part}
+use Rattle.fuse_core.proofs.Placed.{stands, behind-at, behind-all, flat_map-pushed, shifts-pushed, shifts-take}
+use Rattle.fuse_core.proofs.Placed.{cost-more, cost-part}
 use Rattle.fuse_core.proofs.growing.grown.Goals as goal
-use Rattle.fuse_core.proofs.growing.grown.Goals.{in-Before+in_ok-sum-in-Before, in_default+in_ok-more-in_default+in_ok-sum-in_default}
+use Rattle.fuse_core.proofs.growing.grown.Goals.{in-Before+in_ok-sum-in-Before}
+use Rattle.fuse_core.proofs.growing.grown.Goals.{in_default+in_ok-more-in_default+in_ok-sum-in_default}
 
 pub offset_bounds-later-place : goal.offset_bounds-later-place
 offset_bounds-later-place g c =
@@ -65,9 +67,12 @@ returns-in_err-sum-in-Before-clause-cost g c =
     let at = behind-at growths i growth (Kept 0) c.loop-growth-test.true c.in-Before.is in
     let size = g.M.Maps.size c.args.maps.now in
     let here = c.in_err-sum-in-Before.ensures.cost in
-    cost-part (shifts (take (i + 1 + 1) growths)) (shifts growths) size c.args.steps.now c.with_before.new.steps (shifts-take (i + 1 + 1) growths)
-    (cost-more (shifts (take (i + 1) growths)) 1 (shifts (take (i + 1 + 1) growths)) size c.args.steps.now c.loop-growth.steps
-    c.with_before.new.steps (shifts-pushed growths (i + 1) growth at) c.loop-growth.invariant.cost (omega (arith, here)))
+    cost-part (shifts (take (i + 1 + 1) growths)) (shifts growths) size c.args.steps.now c.with_before.new.steps
+    (shifts-take (i + 1 + 1) growths)
+    (cost-more (shifts (take (i + 1) growths)) 1 (shifts (take (i + 1 + 1) growths)) size c.args.steps.now
+    c.loop-growth.steps
+    c.with_before.new.steps (shifts-pushed growths (i + 1) growth at) c.loop-growth.invariant.cost
+    (omega (arith, here)))
 
 pub growth_of-requires-in_default : goal.growth_of-requires-in_default
 growth_of-requires-in_default g c =
@@ -93,9 +98,12 @@ returns-in_err-more-in_default g c =
     record {
       fits = grind (arith);
       shows = grind (arith);
-      cost = cost-part (shifts (take (i + 1 + 1) growths)) (shifts growths) size c.args.steps.now c.growth_of-in_default.new.steps (shifts-take (i + 1 + 1) growths)
-          (cost-more (shifts (take (i + 1) growths)) (shifts (growth ∷ [])) (shifts (take (i + 1 + 1) growths)) size c.args.steps.now c.loop-growth.steps
-          c.growth_of-in_default.new.steps (shifts-pushed growths (i + 1) growth at) c.loop-growth.invariant.cost c.in_err-more-in_default.ensures.cost);
+      cost = cost-part (shifts (take (i + 1 + 1) growths)) (shifts growths) size c.args.steps.now
+          c.growth_of-in_default.new.steps (shifts-take (i + 1 + 1) growths)
+          (cost-more (shifts (take (i + 1) growths)) (shifts (growth ∷ [])) (shifts (take (i + 1 + 1) growths)) size
+          c.args.steps.now c.loop-growth.steps
+          c.growth_of-in_default.new.steps (shifts-pushed growths (i + 1) growth at) c.loop-growth.invariant.cost
+          c.in_err-more-in_default.ensures.cost);
     }
 
 pub returns-in_err-sum-in_default : goal.returns-in_err-sum-in_default
@@ -108,9 +116,12 @@ returns-in_err-sum-in_default g c =
     record {
       fits = grind (arith);
       shows = grind (arith);
-      cost = cost-part (shifts (take (i + 1 + 1) growths)) (shifts growths) size c.args.steps.now c.growth_of-in_default.new.steps (shifts-take (i + 1 + 1) growths)
-          (cost-more (shifts (take (i + 1) growths)) (shifts (growth ∷ [])) (shifts (take (i + 1 + 1) growths)) size c.args.steps.now c.loop-growth.steps
-          c.growth_of-in_default.new.steps (shifts-pushed growths (i + 1) growth at) c.loop-growth.invariant.cost c.in_ok-more-in_default.ensures.cost);
+      cost = cost-part (shifts (take (i + 1 + 1) growths)) (shifts growths) size c.args.steps.now
+          c.growth_of-in_default.new.steps (shifts-take (i + 1 + 1) growths)
+          (cost-more (shifts (take (i + 1) growths)) (shifts (growth ∷ [])) (shifts (take (i + 1 + 1) growths)) size
+          c.args.steps.now c.loop-growth.steps
+          c.growth_of-in_default.new.steps (shifts-pushed growths (i + 1) growth at) c.loop-growth.invariant.cost
+          c.in_ok-more-in_default.ensures.cost);
     }
 
 pub loop-growth-preserved : goal.loop-growth-preserved
@@ -121,40 +132,51 @@ loop-growth-preserved g c =
     let size = g.M.Maps.size c.args.maps.now in
     elim c.match-growth.branch [
       | in-Before+in_ok-sum-in-Before w ↦
-        let growth = Before w.in-Before.label w.in-Before.place in
-        let at = behind-at growths i growth (Kept 0) c.loop-growth-test.true w.in-Before.is in
-        let within = c.requires.within growth (IsIn-read growths (i + 1) growth at.within at.is) in
-        let here = w.in_ok-sum-in-Before.ensures.cost in
-        record {
-          fits = subst (g.M.Maps.fits c.args.maps.now) (sym w.sum-is) w.in_ok-sum-in-Before.ensures.fits;
-          shows = λ lists brought ls bs.
-              subst (λ m. shows (flat_map (growth_lists c.args.row lists brought) (take (i + 1 + 1) growths)) m) (sym w.sum-is)
-              (subst (λ l. shows l w.in_ok-sum-in-Before.sum) (flat_map-pushed (growth_lists c.args.row lists brought) growths (i + 1) growth at)
-              (w.in_ok-sum-in-Before.ensures.shows (flat_map (growth_lists c.args.row lists brought) (take (i + 1) growths))
-              (lists w.in-Before.place)
-              (c.loop-growth.invariant.shows lists brought ls bs)
-              (ls w.in-Before.place w.index-later-place.result
-              (stands c.args.later.now w.in-Before.place w.index-later-place.result within.1 w.index-later-place.is))));
-          cost = subst (λ n. n ≤ c.args.steps.now + shifts (take (i + 1 + 1) growths) * size) (sym w.steps-is)
-              (cost-more (shifts (take (i + 1) growths)) 1 (shifts (take (i + 1 + 1) growths)) size c.args.steps.now c.loop-growth.steps
-              w.with_before.new.steps (shifts-pushed growths (i + 1) growth at) c.loop-growth.invariant.cost (omega (arith, here)));
-        }
+          let growth = Before w.in-Before.label w.in-Before.place in
+          let at = behind-at growths i growth (Kept 0) c.loop-growth-test.true w.in-Before.is in
+          let within = c.requires.within growth (IsIn-read growths (i + 1) growth at.within at.is) in
+          let here = w.in_ok-sum-in-Before.ensures.cost in
+          record {
+            fits = subst (g.M.Maps.fits c.args.maps.now) (sym w.sum-is) w.in_ok-sum-in-Before.ensures.fits;
+            shows = λ lists brought ls bs.
+                subst (λ m. shows (flat_map (growth_lists c.args.row lists brought) (take (i + 1 + 1) growths)) m)
+                (sym w.sum-is)
+                (subst (λ l. shows l w.in_ok-sum-in-Before.sum)
+                (flat_map-pushed (growth_lists c.args.row lists brought) growths (i + 1) growth at)
+                (w.in_ok-sum-in-Before.ensures.shows
+                (flat_map (growth_lists c.args.row lists brought) (take (i + 1) growths))
+                (lists w.in-Before.place)
+                (c.loop-growth.invariant.shows lists brought ls bs)
+                (ls w.in-Before.place w.index-later-place.result
+                (stands c.args.later.now w.in-Before.place w.index-later-place.result within.1
+                w.index-later-place.is))));
+            cost = subst (λ n. n ≤ c.args.steps.now + shifts (take (i + 1 + 1) growths) * size) (sym w.steps-is)
+                (cost-more (shifts (take (i + 1) growths)) 1 (shifts (take (i + 1 + 1) growths)) size c.args.steps.now
+                c.loop-growth.steps
+                w.with_before.new.steps (shifts-pushed growths (i + 1) growth at) c.loop-growth.invariant.cost
+                (omega (arith, here)));
+          }
       | in_default+in_ok-more-in_default+in_ok-sum-in_default w ↦
-        let growth = slice_index_or (take (length growths - 1) (drop 1 growths)) i (Kept 0) in
-        let at = behind-at growths i growth (Kept 0) c.loop-growth-test.true refl in
-        record {
-          fits = subst (g.M.Maps.fits c.args.maps.now) (sym w.sum-is) w.in_ok-sum-in_default.ensures.fits;
-          shows = λ lists brought ls bs.
-              subst (λ m. shows (flat_map (growth_lists c.args.row lists brought) (take (i + 1 + 1) growths)) m) (sym w.sum-is)
-              (subst (λ l. shows l w.in_ok-sum-in_default.sum) (flat_map-pushed (growth_lists c.args.row lists brought) growths (i + 1) growth at)
-              (w.in_ok-sum-in_default.ensures.shows (flat_map (growth_lists c.args.row lists brought) (take (i + 1) growths))
-              (growth_lists c.args.row lists brought growth)
-              (c.loop-growth.invariant.shows lists brought ls bs)
-              (w.in_ok-more-in_default.ensures.shows lists brought ls bs)));
-          cost = subst (λ n. n ≤ c.args.steps.now + shifts (take (i + 1 + 1) growths) * size) (sym w.steps-is)
-              (cost-more (shifts (take (i + 1) growths)) (shifts (growth ∷ [])) (shifts (take (i + 1 + 1) growths)) size c.args.steps.now c.loop-growth.steps
-              w.growth_of-in_default.new.steps (shifts-pushed growths (i + 1) growth at) c.loop-growth.invariant.cost w.in_ok-more-in_default.ensures.cost);
-        }
+          let growth = slice_index_or (take (length growths - 1) (drop 1 growths)) i (Kept 0) in
+          let at = behind-at growths i growth (Kept 0) c.loop-growth-test.true refl in
+          record {
+            fits = subst (g.M.Maps.fits c.args.maps.now) (sym w.sum-is) w.in_ok-sum-in_default.ensures.fits;
+            shows = λ lists brought ls bs.
+                subst (λ m. shows (flat_map (growth_lists c.args.row lists brought) (take (i + 1 + 1) growths)) m)
+                (sym w.sum-is)
+                (subst (λ l. shows l w.in_ok-sum-in_default.sum)
+                (flat_map-pushed (growth_lists c.args.row lists brought) growths (i + 1) growth at)
+                (w.in_ok-sum-in_default.ensures.shows
+                (flat_map (growth_lists c.args.row lists brought) (take (i + 1) growths))
+                (growth_lists c.args.row lists brought growth)
+                (c.loop-growth.invariant.shows lists brought ls bs)
+                (w.in_ok-more-in_default.ensures.shows lists brought ls bs)));
+            cost = subst (λ n. n ≤ c.args.steps.now + shifts (take (i + 1 + 1) growths) * size) (sym w.steps-is)
+                (cost-more (shifts (take (i + 1) growths)) (shifts (growth ∷ [])) (shifts (take (i + 1 + 1) growths))
+                size c.args.steps.now c.loop-growth.steps
+                w.growth_of-in_default.new.steps (shifts-pushed growths (i + 1) growth at) c.loop-growth.invariant.cost
+                w.in_ok-more-in_default.ensures.cost);
+          }
     ]
 
 pub returns-after-loop-growth-clause-shows : goal.returns-after-loop-growth-clause-shows

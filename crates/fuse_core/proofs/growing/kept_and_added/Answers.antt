@@ -31,18 +31,24 @@ loop-wires-preserved g c =
     let pushed = c.in_ok-push.ensures.items in
     let old = c.take_first-old.result in
     let new = c.take_first-new.result in
-    let old_split : drop i c.args.later.items ≡ old ∷ c.take_first-old.new.items.items = sym c.loop-wires.invariant.later ∙ c.take_first-old.ensures in
-    let new_split : drop i c.args.added.items ≡ new ∷ c.take_first-new.new.items.items = sym c.loop-wires.invariant.added ∙ c.take_first-new.ensures in
+    let old_split : drop i c.args.later.items ≡ old ∷ c.take_first-old.new.items.items = sym
+    c.loop-wires.invariant.later ∙ c.take_first-old.ensures in
+    let new_split : drop i c.args.added.items ≡ new ∷ c.take_first-new.new.items.items = sym
+    c.loop-wires.invariant.added ∙ c.take_first-new.ensures in
     record {
       later = drop-rest c.args.later.items i old c.take_first-old.new.items.items old_split;
       added = drop-rest c.args.added.items i new c.take_first-new.new.items.items new_split;
-      count = let long = ap length pushed in let one_more = length_push before made in let count = c.loop-wires.invariant.count in omega (arith, long, one_more, count);
+      count = let long = ap length pushed in let one_more = length_push before made in let count =
+          c.loop-wires.invariant.count in omega (arith, long, one_more, count);
       shows = λ lists brought ls bs place w m w_at m_at.
-          each-push (λ place m. (w : Wires) → StandsAt wiring place w → shows (kept_lists w.keeps (lists place) ++ brought place) m)
+          each-push (λ place m. (w : Wires) → StandsAt wiring place w
+          → shows (kept_lists w.keeps (lists place) ++ brought place) m)
           before after made
           (λ place m m_at w w_at. c.loop-wires.invariant.shows lists brought ls bs place w m w_at m_at)
-          (subst (λ n. (w : Wires) → StandsAt wiring n w → shows (kept_lists w.keeps (lists n) ++ brought n) made) (sym c.loop-wires.invariant.count)
-          (λ w w_at. subst (λ v. shows (kept_lists v.keeps (lists i) ++ brought i) made) (same-at wiring i wires w at w_at)
+          (subst (λ n. (w : Wires) → StandsAt wiring n w → shows (kept_lists w.keeps (lists n) ++ brought n) made)
+          (sym c.loop-wires.invariant.count)
+          (λ w w_at. subst (λ v. shows (kept_lists v.keeps (lists i) ++ brought i) made)
+          (same-at wiring i wires w at w_at)
           (c.in_ok-map.ensures (lists i) (brought i)
           (ls i old (drop-first c.args.later.items i old c.take_first-old.new.items.items old_split))
           (bs i new (drop-first c.args.added.items i new c.take_first-new.new.items.items new_split)))))

@@ -10,6 +10,7 @@ invariant-loop-wires g l =
       later : l.later.items ≡ drop l.wires-index l.fn.later.items;
       added : l.added.items ≡ drop l.wires-index l.fn.added.items;
       count : length l.made.items ≡ l.wires-index;
-      shows : (lists brought : ℕ → List (List Mark)) → ShowEach shows lists l.fn.later.items → ShowEach shows brought l.fn.added.items
+      shows : (lists brought : ℕ → List (List Mark)) → ShowEach shows lists l.fn.later.items
+          → ShowEach shows brought l.fn.added.items
           → ShowGrown shows lists brought l.wiring l.made.items;
     }

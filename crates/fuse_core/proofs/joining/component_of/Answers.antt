@@ -4,7 +4,8 @@ use Rattle.std.specs.List.{flat_map}
 use Rattle.monoid_kit.proofs.Items.{IsIn-read}
 use Rattle.fuse_core.specs.declared.wiring.Source.TheVariants.{Left}
 use Rattle.fuse_core.specs.Wirings.{source_lists, crossings}
-use Rattle.fuse_core.proofs.Placed.{stands-default, flat_map-pushed, crossings-pushed, crossings-take, cost-more, cost-part}
+use Rattle.fuse_core.proofs.Placed.{stands-default, flat_map-pushed, crossings-pushed, crossings-take, cost-more}
+use Rattle.fuse_core.proofs.Placed.{cost-part}
 use Rattle.fuse_core.proofs.joining.component_of.Goals as goal
 
 pub source_of-requires-clause-within : goal.source_of-requires-clause-within
@@ -12,7 +13,8 @@ source_of-requires-clause-within g c =
     let sources = c.args.sources.now in
     let i = c.loop-source.source-index in
     let at = stands-default sources i (Left 0) c.loop-source-test.true in
-    c.requires.within (slice_index_or sources i (Left 0)) (IsIn-read sources i (slice_index_or sources i (Left 0)) at.within at.is)
+    c.requires.within (slice_index_or sources i (Left 0))
+    (IsIn-read sources i (slice_index_or sources i (Left 0)) at.within at.is)
 
 pub returns-in_err-more-clause-cost : goal.returns-in_err-more-clause-cost
 returns-in_err-more-clause-cost g c =
@@ -21,9 +23,12 @@ returns-in_err-more-clause-cost g c =
     let source = slice_index_or sources i (Left 0) in
     let at = stands-default sources i (Left 0) c.loop-source-test.true in
     let size = g.M.Maps.size c.args.maps.now * g.M.Maps.size c.args.maps.now in
-    cost-part (crossings (take (i + 1) sources)) (crossings sources) size c.args.steps.now c.source_of.new.steps (crossings-take (i + 1) sources)
-    (cost-more (crossings (take i sources)) (crossings (source ∷ [])) (crossings (take (i + 1) sources)) size c.args.steps.now c.loop-source.steps
-    c.source_of.new.steps (crossings-pushed sources i source at) c.loop-source.invariant.cost c.in_err-more.ensures.cost)
+    cost-part (crossings (take (i + 1) sources)) (crossings sources) size c.args.steps.now c.source_of.new.steps
+    (crossings-take (i + 1) sources)
+    (cost-more (crossings (take i sources)) (crossings (source ∷ [])) (crossings (take (i + 1) sources)) size
+    c.args.steps.now c.loop-source.steps
+    c.source_of.new.steps (crossings-pushed sources i source at) c.loop-source.invariant.cost
+    c.in_err-more.ensures.cost)
 
 pub returns-in_err-sum-2-clause-cost : goal.returns-in_err-sum-2-clause-cost
 returns-in_err-sum-2-clause-cost g c =
@@ -32,8 +37,10 @@ returns-in_err-sum-2-clause-cost g c =
     let source = slice_index_or sources i (Left 0) in
     let at = stands-default sources i (Left 0) c.loop-source-test.true in
     let size = g.M.Maps.size c.args.maps.now * g.M.Maps.size c.args.maps.now in
-    cost-part (crossings (take (i + 1) sources)) (crossings sources) size c.args.steps.now c.source_of.new.steps (crossings-take (i + 1) sources)
-    (cost-more (crossings (take i sources)) (crossings (source ∷ [])) (crossings (take (i + 1) sources)) size c.args.steps.now c.loop-source.steps
+    cost-part (crossings (take (i + 1) sources)) (crossings sources) size c.args.steps.now c.source_of.new.steps
+    (crossings-take (i + 1) sources)
+    (cost-more (crossings (take i sources)) (crossings (source ∷ [])) (crossings (take (i + 1) sources)) size
+    c.args.steps.now c.loop-source.steps
     c.source_of.new.steps (crossings-pushed sources i source at) c.loop-source.invariant.cost c.in_ok-more.ensures.cost)
 
 pub loop-source-preserved : goal.loop-source-preserved
@@ -51,8 +58,10 @@ loop-source-preserved g c =
           (c.in_ok-sum-2.ensures.shows (flat_map (source_lists earlier later) (take i sources))
           (source_lists earlier later source)
           (c.loop-source.invariant.shows earlier later es ls) (c.in_ok-more.ensures.shows earlier later es ls));
-      cost = cost-more (crossings (take i sources)) (crossings (source ∷ [])) (crossings (take (i + 1) sources)) size c.args.steps.now c.loop-source.steps
-          c.source_of.new.steps (crossings-pushed sources i source at) c.loop-source.invariant.cost c.in_ok-more.ensures.cost;
+      cost = cost-more (crossings (take i sources)) (crossings (source ∷ [])) (crossings (take (i + 1) sources)) size
+          c.args.steps.now c.loop-source.steps
+          c.source_of.new.steps (crossings-pushed sources i source at) c.loop-source.invariant.cost
+          c.in_ok-more.ensures.cost;
     }
 
 pub returns-clause-shows : goal.returns-clause-shows

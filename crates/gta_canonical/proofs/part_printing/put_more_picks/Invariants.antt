@@ -5,4 +5,5 @@ use Rattle.gta_canonical.proofs.Fronts.{Written}
 use Rattle.gta_canonical.proofs.part_printing.put_more_picks.Given as goal
 
 abbrev pub invariant-loop-pick : goal.invariant-loop-pick
-invariant-loop-pick l = Written next_pick_front l.out.items (map pick_tree (drop l.pick-index l.picks)) (l.initial.out.items ++ line_text (fronts next_pick_front (map pick_tree l.picks) []))
+invariant-loop-pick l = Written next_pick_front l.out.items (map pick_tree (drop l.pick-index l.picks))
+    (l.initial.out.items ++ line_text (fronts next_pick_front (map pick_tree l.picks) []))

@@ -4,4 +4,5 @@ use Rattle.gta_canonical.proofs.Fronts.{Written}
 use Rattle.gta_canonical.proofs.printing.put_names.Given as goal
 
 abbrev pub invariant-loop-name : goal.invariant-loop-name
-invariant-loop-name l = Written name_front l.out.items (drop l.name-index l.names) (l.initial.out.items ++ line_text (fronts name_front l.names []))
+invariant-loop-name l = Written name_front l.out.items (drop l.name-index l.names)
+    (l.initial.out.items ++ line_text (fronts name_front l.names []))

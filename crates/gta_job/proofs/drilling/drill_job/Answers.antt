@@ -13,7 +13,8 @@ use Rattle.gta_job.proofs.drilling.drill_job.Goals as goal
 module _ (leaf seed rows : ℕ) where
   abbrev after_greatest : List ℕ → List ℕ → Result (List ℕ) Refusal
   after_greatest best greatest =
-      and_then (part_outcome leaf seed rows Segments) (λ segments. Ok (((heading seed rows ++ best) ++ greatest) ++ segments))
+      and_then (part_outcome leaf seed rows Segments)
+      (λ segments. Ok (((heading seed rows ++ best) ++ greatest) ++ segments))
 
   abbrev after_best : List ℕ → Result (List ℕ) Refusal
   after_best best = and_then (part_outcome leaf seed rows Greatest) (after_greatest best)
@@ -23,7 +24,8 @@ unfolding outcome
 returns-in_err-best g c =
     let end = c.in_err-best.field-0.0 in
     let ends : Ends (outcome (Drill c.args.seed c.args.rows c.args.workers c.args.leaf) []) end =
-    then-ends (part_outcome c.args.leaf c.args.seed c.args.rows Best) (after_best c.args.leaf c.args.seed c.args.rows) end
+    then-ends (part_outcome c.args.leaf c.args.seed c.args.rows Best)
+    (after_best c.args.leaf c.args.seed c.args.rows) end
     c.in_err-best.ensures.tells in
     search rules
 
@@ -67,7 +69,8 @@ returns g c =
     let text : ((front ++ best) ++ greatest) ++ segments ≡ c.extend_from_slice-3.new.self.items = search rules in
     record {
       tells = ap (λ step. and_then step (after_best c.args.leaf c.args.seed c.args.rows)) c.in_ok-best.ensures.tells
-          ∙ ap (λ step. and_then step (after_greatest c.args.leaf c.args.seed c.args.rows best)) c.in_ok-greatest.ensures.tells
+          ∙ ap (λ step. and_then step (after_greatest c.args.leaf c.args.seed c.args.rows best))
+          c.in_ok-greatest.ensures.tells
           ∙ ap (λ step. and_then step (λ segments.
           Ok (((heading c.args.seed c.args.rows ++ best) ++ greatest) ++ segments))) c.in_ok-segments.ensures.tells
           ∙ ap Ok text;

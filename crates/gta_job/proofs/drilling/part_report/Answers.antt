@@ -12,6 +12,7 @@ returns g c =
     let bytes : c.as_slice.result.now ≡ drill_text c.args.drill c.args.seed c.args.rows =
     c.as_slice.ensures.value ∙ c.in_ok-text.ensures.text in
     record {
-      tells = subst (λ bytes. Tells (λ (text : Vec ℕ Global). text.items) (outcome (Run c.args.workers c.args.leaf) bytes)
+      tells = subst (λ bytes. Tells (λ (text : Vec ℕ Global). text.items)
+          (outcome (Run c.args.workers c.args.leaf) bytes)
           c.answer_job.result) bytes c.answer_job.ensures.tells;
     }

@@ -24,7 +24,8 @@ returns-in_err-rows g c =
     let table = drop read.rows_at c.args.bytes.now in
     let stops : Ends (table_rows (resolved_of read.spec) table) end =
     subst (λ checked. Ends (table_rows checked table) end) c.in_ok-read.ensures.resolved
-    (subst (λ table. Ends (table_rows c.in_ok-read.checked table) end) c.bytes_from.ensures c.in_err-rows.ensures.tells) in
+    (subst (λ table. Ends (table_rows c.in_ok-read.checked table) end) c.bytes_from.ensures
+    c.in_err-rows.ensures.tells) in
     let ends : Ends (outcome (Run c.args.workers c.args.leaf) c.args.bytes.now) end =
     of_table-ends (rows_report c.args.leaf) c.args.bytes.now read end c.in_ok-read.ensures.tells stops in
     search rules
@@ -38,12 +39,15 @@ returns g c =
     let result = c.rows_report.result in
     let are_rows : table_rows (resolved_of read.spec) table ≡ Ok rows =
     subst (λ checked. table_rows checked table ≡ Ok rows) c.in_ok-read.ensures.resolved
-    (subst (λ table. table_rows c.in_ok-read.checked table ≡ Ok rows) c.bytes_from.ensures c.in_ok-rows.ensures.tells) in
-    let told : Tells (λ (text : Vec ℕ Global). text.items) (rows_report c.args.leaf (resolved_of read.spec) rows) result =
+    (subst (λ table. table_rows c.in_ok-read.checked table ≡ Ok rows) c.bytes_from.ensures
+    c.in_ok-rows.ensures.tells) in
+    let told : Tells (λ (text : Vec ℕ Global). text.items) (rows_report c.args.leaf (resolved_of read.spec) rows)
+    result =
     subst (λ checked. Tells (λ (text : Vec ℕ Global). text.items) (rows_report c.args.leaf checked rows) result)
     c.in_ok-read.ensures.resolved c.rows_report.ensures.tells in
     record {
-      tells = tells-same (λ (text : Vec ℕ Global). text.items) (outcome (Run c.args.workers c.args.leaf) c.args.bytes.now)
+      tells = tells-same (λ (text : Vec ℕ Global). text.items)
+          (outcome (Run c.args.workers c.args.leaf) c.args.bytes.now)
           (rows_report c.args.leaf (resolved_of read.spec) rows) result
           (of_rows-told (rows_report c.args.leaf) c.args.bytes.now read rows c.in_ok-read.ensures.tells are_rows) told;
     }

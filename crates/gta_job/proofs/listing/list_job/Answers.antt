@@ -24,7 +24,8 @@ returns-in_err-rows c =
     let table = drop read.rows_at c.args.bytes.now in
     let stops : Ends (table_rows (resolved_of read.spec) table) end =
     subst (λ checked. Ends (table_rows checked table) end) c.in_ok-read.ensures.resolved
-    (subst (λ table. Ends (table_rows c.in_ok-read.checked table) end) c.bytes_from.ensures c.in_err-rows.ensures.tells) in
+    (subst (λ table. Ends (table_rows c.in_ok-read.checked table) end) c.bytes_from.ensures
+    c.in_err-rows.ensures.tells) in
     let ends : Ends (outcome ListKept c.args.bytes.now) end =
     of_table-ends rows_list c.args.bytes.now read end c.in_ok-read.ensures.tells stops in
     search rules
@@ -38,7 +39,8 @@ returns c =
     let result = c.rows_list.result in
     let are_rows : table_rows (resolved_of read.spec) table ≡ Ok rows =
     subst (λ checked. table_rows checked table ≡ Ok rows) c.in_ok-read.ensures.resolved
-    (subst (λ table. table_rows c.in_ok-read.checked table ≡ Ok rows) c.bytes_from.ensures c.in_ok-rows.ensures.tells) in
+    (subst (λ table. table_rows c.in_ok-read.checked table ≡ Ok rows) c.bytes_from.ensures
+    c.in_ok-rows.ensures.tells) in
     let told : Tells (λ (text : Vec ℕ Global). text.items) (rows_list (resolved_of read.spec) rows) result =
     subst (λ checked. Tells (λ (text : Vec ℕ Global). text.items) (rows_list checked rows) result)
     c.in_ok-read.ensures.resolved c.rows_list.ensures.tells in

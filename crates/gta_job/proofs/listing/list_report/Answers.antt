@@ -14,7 +14,9 @@ push_candidate_line-requires c =
     let marks : Candidate → List Mark = λ candidate. candidate.marks.items in
     let within : i < length list = search rules in
     let here : get_or (marks_of list) i [] ≡ c.as_slice.result.now =
-    get_or-map marks list i c.candidate-item.result [] within ∙ ap marks (sym c.candidate-item.is) ∙ sym c.as_slice.ensures.value in
+    get_or-map marks list i c.candidate-item.result [] within ∙ ap marks (sym c.candidate-item.is)
+    ∙ sym c.as_slice.ensures.value in
     record {
-      labelled = subst (AreLabelled c.args.labels.now) here (c.requires i [] (omega (arith, within, length-map list marks)));
+      labelled = subst (AreLabelled c.args.labels.now) here
+          (c.requires i [] (omega (arith, within, length-map list marks)));
     }

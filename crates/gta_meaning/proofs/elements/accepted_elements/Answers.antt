@@ -14,7 +14,8 @@ accepted_by-requires c =
     record {
       within = item-within plain_test c.deref-test-items.result.now checked.tests same
           (IsTestWithin (length checked.columns) (length checked.labels) (length checked.measures) checked.tables)
-          c.loop-test.test-index c.test-item.result c.loop-test-test.true c.test-item.is c.tests-tests.ensures.within.tests;
+          c.loop-test.test-index c.test-item.result c.loop-test-test.true c.test-item.is
+          c.tests-tests.ensures.within.tests;
     }
 
 pub returns : goal.returns

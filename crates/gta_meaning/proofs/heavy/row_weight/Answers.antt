@@ -7,7 +7,8 @@ use Rattle.gta_meaning.proofs.heavy.row_weight.Goals as goal
 
 pub loop-label-preserved : goal.loop-label-preserved
 loop-label-preserved c =
-    let size_of = λ (label : ℕ). nat_abs (value c.args.checked.now (plain_rows c.args.rows.now) c.args.measure c.args.row label) in
+    let size_of = λ (label : ℕ). nat_abs
+    (value c.args.checked.now (plain_rows c.args.rows.now) c.args.measure c.args.row label) in
     let more = greatest-more size_of c.loop-label.label in
     let size : c.unsigned_abs.result ≡ nat_abs c.value_of.result = omega (arith, ints) in
     let same = ap nat_abs c.value_of.ensures.value in

@@ -17,7 +17,8 @@ passes_by-requires-clause-in_range c =
     let checked = c.args.checked.now in
     let rows = plain_rows c.args.rows.now in
     let whole = rw (c.shape-shape.ensures.shape, c.label_count-labels.ensures) at c.sizes-extent.ensures.candidates in
-    let below : c.loop-number.number < length (generated checked rows) = omega (arith, whole, c.loop-number-test.true) in
+    let below : c.loop-number.number < length (generated checked rows) = omega
+    (arith, whole, c.loop-number-test.true) in
     let same : c.in_ok-candidate.candidate.marks.items ≡ get_or (generated checked rows) c.loop-number.number [] =
     rw (c.shape-shape.ensures.shape, c.label_count-labels.ensures) at c.in_ok-candidate.ensures in
     subst (IsInRangeOf checked rows) (sym same) (generated-IsInRangeOf checked rows c.loop-number.number [] below)

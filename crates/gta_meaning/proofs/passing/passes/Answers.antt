@@ -26,7 +26,8 @@ returns-then-not-passes_test c =
     sym c.passes_test.ensures ∙ c.if-not-passes_test.true in
     sym (ap (list_all holds) (sym same) ∙ list_all-map holds plain_test c.deref-test-items.result.now
     ∙ list_all_at (λ (test : Test). holds (plain_test test)) c.deref-test-items.result.now
-    c.loop-test.test-index c.test-item.result c.loop-test-test.true (ap (λ (test : Test). holds (plain_test test)) (sym c.test-item.is) ∙ fails))
+    c.loop-test.test-index c.test-item.result c.loop-test-test.true
+    (ap (λ (test : Test). holds (plain_test test)) (sym c.test-item.is) ∙ fails))
 
 pub returns : goal.returns
 returns c =

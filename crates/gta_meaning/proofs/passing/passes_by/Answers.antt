@@ -16,7 +16,8 @@ passes_test_by-requires-clause-accepted c =
     let in_range : c.loop-k.k < length c.tests-tests.result.now.items =
     omega (arith, c.loop-k-test.true, c.len-k-end.ensures, c.tests-tests.result.now.ok) in
     accepted-at c.tests-tests.result.now.items c.args.checked.now.tests c.tests-tests.ensures.tests c.args.accepted.now
-    c.requires.accepted c.loop-k.k c.index.result.now c.index-accepted-k.result in_range c.index.ensures c.index-accepted-k.is
+    c.requires.accepted c.loop-k.k c.index.result.now c.index-accepted-k.result in_range c.index.ensures
+    c.index-accepted-k.is
 
 pub passes_test_by-requires-clause-within : goal.passes_test_by-requires-clause-within
 passes_test_by-requires-clause-within c =

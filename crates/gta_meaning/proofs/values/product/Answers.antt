@@ -34,7 +34,8 @@ returns-clause-value c =
 pub returns-clause-bounded : goal.returns-clause-bounded
 returns-clause-bounded c =
     let r = c.requires in
-    let value = ap (λ z. to_z w128 (of_z w128 z)) (product-read c.args.factor c.args.number r.small_factor r.small_number)
+    let value = ap (λ z. to_z w128 (of_z w128 z))
+    (product-read c.args.factor c.args.number r.small_factor r.small_number)
     ∙ to_z-of_z w128 _ (product-fits c.args.factor c.args.number r.small_factor r.small_number) in
     subst (λ z. nat_abs z ≤ FACTOR_LIMIT * NUMBER_BOUND) (sym value)
     (nat_abs-product-le c.args.factor c.args.number FACTOR_LIMIT NUMBER_BOUND r.small_factor r.small_number)

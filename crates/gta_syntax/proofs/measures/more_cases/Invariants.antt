@@ -6,4 +6,6 @@ use Rattle.gta_syntax.proofs.Loops.{SoFar}
 use Rattle.gta_syntax.proofs.measures.more_cases.Given as goal
 
 abbrev pub invariant-loop : goal.invariant-loop
-invariant-loop l = SoFar (begins_sign (codes ";")) next_case_at (length l.tokens - l.counter) (map case_tree l.cases.items) (symbols l.source l.rest) (many (begins_sign (codes ";")) next_case_at (length l.tokens) (symbols l.source l.tokens))
+invariant-loop l = SoFar (begins_sign (codes ";")) next_case_at (length l.tokens - l.counter)
+    (map case_tree l.cases.items) (symbols l.source l.rest)
+    (many (begins_sign (codes ";")) next_case_at (length l.tokens) (symbols l.source l.tokens))

@@ -6,4 +6,6 @@ use Rattle.gta_syntax.proofs.Loops.{SoFar}
 use Rattle.gta_syntax.proofs.measures.more_picks.Given as goal
 
 abbrev pub invariant-loop : goal.invariant-loop
-invariant-loop l = SoFar (begins_sign (codes ";")) next_pick_at (length l.tokens - l.counter) (map pick_tree l.picks.items) (symbols l.source l.rest) (many (begins_sign (codes ";")) next_pick_at (length l.tokens) (symbols l.source l.tokens))
+invariant-loop l = SoFar (begins_sign (codes ";")) next_pick_at (length l.tokens - l.counter)
+    (map pick_tree l.picks.items) (symbols l.source l.rest)
+    (many (begins_sign (codes ";")) next_pick_at (length l.tokens) (symbols l.source l.tokens))

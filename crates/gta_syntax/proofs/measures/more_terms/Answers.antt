@@ -6,16 +6,22 @@ use Rattle.gta_syntax.proofs.measures.more_terms.Goals as goal
 
 pub returns-then-not-begins_next_term : goal.returns-then-not-begins_next_term
 returns-then-not-begins_next_term c =
-    at_stop c.loop.invariant (sym c.if-not-begins_next_term.ensures) (length c.args.tokens.now - (c.loop.counter + 1)) (omega (arith, c.loop-test.true))
+    at_stop c.loop.invariant (sym c.if-not-begins_next_term.ensures)
+    (length c.args.tokens.now - (c.loop.counter + 1)) (omega (arith, c.loop-test.true))
 
 pub returns-in_err-term : goal.returns-in_err-term
 returns-in_err-term c =
     let p = err_from_is_err_and c.from_residual.result c.from_residual.ensures.1 in
-    rw (p.1, p.2) (at_fault c.loop.invariant (sym c.if-not-begins_next_term.ensures) (length c.args.tokens.now - (c.loop.counter + 1)) (omega (arith, c.loop-test.true)) c.in_err-term.field-0.0 c.in_err-term.ensures)
+    rw (p.1, p.2) (at_fault c.loop.invariant (sym c.if-not-begins_next_term.ensures)
+    (length c.args.tokens.now - (c.loop.counter + 1)) (omega (arith, c.loop-test.true)) c.in_err-term.field-0.0
+    c.in_err-term.ensures)
 
 pub loop-preserved : goal.loop-preserved
 loop-preserved c =
-    rw c.in_ok-push.ensures.items (at_item c.loop.invariant (sym c.if-not-begins_next_term.ensures) (length c.args.tokens.now - (c.loop.counter + 1)) (omega (arith, c.loop-test.true)) c.in_ok-term.term (symbols c.args.source.now c.in_ok-term.after.now) c.in_ok-term.ensures)
+    rw c.in_ok-push.ensures.items
+    (at_item c.loop.invariant (sym c.if-not-begins_next_term.ensures)
+    (length c.args.tokens.now - (c.loop.counter + 1)) (omega (arith, c.loop-test.true)) c.in_ok-term.term
+    (symbols c.args.source.now c.in_ok-term.after.now) c.in_ok-term.ensures)
 
 pub returns : goal.returns
 returns c = at_done c.loop.invariant (omega (arith, c.loop-test.false))

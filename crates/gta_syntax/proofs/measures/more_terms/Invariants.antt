@@ -5,4 +5,5 @@ use Rattle.gta_syntax.proofs.Loops.{SoFar}
 use Rattle.gta_syntax.proofs.measures.more_terms.Given as goal
 
 abbrev pub invariant-loop : goal.invariant-loop
-invariant-loop l = SoFar begins_next_term next_term_at (length l.tokens - l.counter) (l.terms.items) (symbols l.source l.rest) (many begins_next_term next_term_at (length l.tokens) (symbols l.source l.tokens))
+invariant-loop l = SoFar begins_next_term next_term_at (length l.tokens - l.counter) (l.terms.items)
+    (symbols l.source l.rest) (many begins_next_term next_term_at (length l.tokens) (symbols l.source l.tokens))

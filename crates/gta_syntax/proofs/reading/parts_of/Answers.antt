@@ -9,7 +9,8 @@ use Rattle.gta_syntax.proofs.reading.parts_of.Goals as goal
 
 pub returns-in_err-part : goal.returns-in_err-part
 returns-in_err-part c =
-    let cut : drop c.loop-line.line-index c.args.lines.now ≡ c.line-item.result ∷ drop (c.loop-line.line-index + 1) c.args.lines.now =
+    let cut : drop c.loop-line.line-index c.args.lines.now ≡ c.line-item.result ∷ drop (c.loop-line.line-index + 1)
+    c.args.lines.now =
     drop_at _ _ c.line-item.result c.loop-line-test.true c.line-item.is in
     let so_far = rw cut at c.loop-line.invariant in
     let p = err_from_is_err_and c.from_residual.result c.from_residual.ensures.1 in
@@ -17,10 +18,12 @@ returns-in_err-part c =
 
 pub loop-line-preserved : goal.loop-line-preserved
 loop-line-preserved c =
-    let cut : drop c.loop-line.line-index c.args.lines.now ≡ c.line-item.result ∷ drop (c.loop-line.line-index + 1) c.args.lines.now =
+    let cut : drop c.loop-line.line-index c.args.lines.now ≡ c.line-item.result ∷ drop (c.loop-line.line-index + 1)
+    c.args.lines.now =
     drop_at _ _ c.line-item.result c.loop-line-test.true c.line-item.is in
     let so_far = rw cut at c.loop-line.invariant in
-    let e : map part_tree c.push.new.self.items ≡ map part_tree c.loop-line.parts.items ++ part_tree c.in_ok-part.part ∷ [] =
+    let e : map part_tree c.push.new.self.items ≡ map part_tree c.loop-line.parts.items ++ part_tree
+    c.in_ok-part.part ∷ [] =
     rw c.in_ok-push.ensures.items (map_push _ c.loop-line.parts.items c.in_ok-part.part) in
     rw e (parts_at_line so_far (part_tree c.in_ok-part.part) c.in_ok-part.ensures)
 

@@ -6,16 +6,22 @@ use Rattle.gta_syntax.proofs.rules.more_atoms.Goals as goal
 
 pub returns-then-not-begins_word : goal.returns-then-not-begins_word
 returns-then-not-begins_word c =
-    at_stop c.loop.invariant (sym c.if-not-begins_word.ensures) (length c.args.tokens.now - (c.loop.counter + 1)) (omega (arith, c.loop-test.true))
+    at_stop c.loop.invariant (sym c.if-not-begins_word.ensures) (length c.args.tokens.now - (c.loop.counter + 1))
+    (omega (arith, c.loop-test.true))
 
 pub returns-in_err-atom : goal.returns-in_err-atom
 returns-in_err-atom c =
     let p = err_from_is_err_and c.from_residual.result c.from_residual.ensures.1 in
-    rw (p.1, p.2) (at_fault c.loop.invariant (sym c.if-not-begins_word.ensures) (length c.args.tokens.now - (c.loop.counter + 1)) (omega (arith, c.loop-test.true)) c.in_err-atom.field-0.0 c.in_err-atom.ensures)
+    rw (p.1, p.2) (at_fault c.loop.invariant (sym c.if-not-begins_word.ensures)
+    (length c.args.tokens.now - (c.loop.counter + 1)) (omega (arith, c.loop-test.true)) c.in_err-atom.field-0.0
+    c.in_err-atom.ensures)
 
 pub loop-preserved : goal.loop-preserved
 loop-preserved c =
-    rw c.in_ok-push.ensures.items (at_item c.loop.invariant (sym c.if-not-begins_word.ensures) (length c.args.tokens.now - (c.loop.counter + 1)) (omega (arith, c.loop-test.true)) c.in_ok-atom.atom (symbols c.args.source.now c.in_ok-atom.after.now) c.in_ok-atom.ensures)
+    rw c.in_ok-push.ensures.items
+    (at_item c.loop.invariant (sym c.if-not-begins_word.ensures)
+    (length c.args.tokens.now - (c.loop.counter + 1)) (omega (arith, c.loop-test.true)) c.in_ok-atom.atom
+    (symbols c.args.source.now c.in_ok-atom.after.now) c.in_ok-atom.ensures)
 
 pub returns : goal.returns
 returns c = at_done c.loop.invariant (omega (arith, c.loop-test.false))

@@ -6,16 +6,22 @@ use Rattle.gta_syntax.proofs.rules.more_items.Goals as goal
 
 pub returns-then-not-begins_name : goal.returns-then-not-begins_name
 returns-then-not-begins_name c =
-    at_stop c.loop.invariant (sym c.if-not-begins_name.ensures) (length c.args.tokens.now - (c.loop.counter + 1)) (omega (arith, c.loop-test.true))
+    at_stop c.loop.invariant (sym c.if-not-begins_name.ensures) (length c.args.tokens.now - (c.loop.counter + 1))
+    (omega (arith, c.loop-test.true))
 
 pub returns-in_err-item : goal.returns-in_err-item
 returns-in_err-item c =
     let p = err_from_is_err_and c.from_residual.result c.from_residual.ensures.1 in
-    rw (p.1, p.2) (at_fault c.loop.invariant (sym c.if-not-begins_name.ensures) (length c.args.tokens.now - (c.loop.counter + 1)) (omega (arith, c.loop-test.true)) c.in_err-item.field-0.0 c.in_err-item.ensures)
+    rw (p.1, p.2) (at_fault c.loop.invariant (sym c.if-not-begins_name.ensures)
+    (length c.args.tokens.now - (c.loop.counter + 1)) (omega (arith, c.loop-test.true)) c.in_err-item.field-0.0
+    c.in_err-item.ensures)
 
 pub loop-preserved : goal.loop-preserved
 loop-preserved c =
-    rw c.in_ok-push.ensures.items (at_item c.loop.invariant (sym c.if-not-begins_name.ensures) (length c.args.tokens.now - (c.loop.counter + 1)) (omega (arith, c.loop-test.true)) c.in_ok-item.item (symbols c.args.source.now c.in_ok-item.after.now) c.in_ok-item.ensures)
+    rw c.in_ok-push.ensures.items
+    (at_item c.loop.invariant (sym c.if-not-begins_name.ensures)
+    (length c.args.tokens.now - (c.loop.counter + 1)) (omega (arith, c.loop-test.true)) c.in_ok-item.item
+    (symbols c.args.source.now c.in_ok-item.after.now) c.in_ok-item.ensures)
 
 pub returns : goal.returns
 returns c = at_done c.loop.invariant (omega (arith, c.loop-test.false))

@@ -5,4 +5,5 @@ use Rattle.gta_syntax.proofs.Loops.{SoFar}
 use Rattle.gta_syntax.proofs.rules.more_items.Given as goal
 
 abbrev pub invariant-loop : goal.invariant-loop
-invariant-loop l = SoFar begins_name item_at (length l.tokens - l.counter) (l.items.items) (symbols l.source l.rest) (many begins_name item_at (length l.tokens) (symbols l.source l.tokens))
+invariant-loop l = SoFar begins_name item_at (length l.tokens - l.counter) (l.items.items) (symbols l.source l.rest)
+    (many begins_name item_at (length l.tokens) (symbols l.source l.tokens))

@@ -9,12 +9,16 @@ unfolding read_lines
 loop-rest-init c = record {
   in_range = omega arith;
   few = omega arith;
-  so_far = record { joined = rw (c.new-lines.ensures.items, c.split_at.ensures.back, c.mark_length-mark.ensures.mark) (no_front _) };
+  so_far = record {
+    joined = rw (c.new-lines.ensures.items, c.split_at.ensures.back, c.mark_length-mark.ensures.mark)
+        (no_front _);
+  };
 }
 
 pub returns-then-is_rows : goal.returns-then-is_rows
 returns-then-is_rows c =
-    let turn : Turn c.loop-rest.place c.line_length.result c.loop-rest.rest.now c.split_at-in-loop-rest.result.0.now c.split_at-in-loop-rest.result.1.now c.content-content.result.now c.deref.result.now = record {
+    let turn : Turn c.loop-rest.place c.line_length.result c.loop-rest.rest.now c.split_at-in-loop-rest.result.0.now
+    c.split_at-in-loop-rest.result.1.now c.content-content.result.now c.deref.result.now = record {
       some = grind (arith, common_steps);
       len = c.line_length.ensures;
       front = c.split_at-in-loop-rest.ensures.front;
@@ -26,7 +30,8 @@ returns-then-is_rows c =
 
 pub returns-in-Some : goal.returns-in-Some
 returns-in-Some c =
-    let turn : Turn c.loop-rest.place c.line_length.result c.loop-rest.rest.now c.split_at-in-loop-rest.result.0.now c.split_at-in-loop-rest.result.1.now c.content-content.result.now c.deref.result.now = record {
+    let turn : Turn c.loop-rest.place c.line_length.result c.loop-rest.rest.now c.split_at-in-loop-rest.result.0.now
+    c.split_at-in-loop-rest.result.1.now c.content-content.result.now c.deref.result.now = record {
       some = grind (arith, common_steps);
       len = c.line_length.ensures;
       front = c.split_at-in-loop-rest.ensures.front;
@@ -38,7 +43,8 @@ returns-in-Some c =
 
 pub loop-rest-preserved : goal.loop-rest-preserved
 loop-rest-preserved c =
-    let turn : Turn c.loop-rest.place c.line_length.result c.loop-rest.rest.now c.split_at-in-loop-rest.result.0.now c.split_at-in-loop-rest.result.1.now c.content-content.result.now c.deref.result.now = record {
+    let turn : Turn c.loop-rest.place c.line_length.result c.loop-rest.rest.now c.split_at-in-loop-rest.result.0.now
+    c.split_at-in-loop-rest.result.1.now c.content-content.result.now c.deref.result.now = record {
       some = grind (arith, common_steps);
       len = c.line_length.ensures;
       front = c.split_at-in-loop-rest.ensures.front;
@@ -49,7 +55,8 @@ loop-rest-preserved c =
     record {
       in_range = omega (arith, c.line_length.ensures, c.loop-rest.invariant.in_range);
       few = omega (arith, c.line_length.ensures, c.loop-rest.invariant.few);
-      so_far = rw (c.in_ok-add_line.ensures, ← c.deref.ensures.value) (at_good turn c.loop-rest.invariant.so_far (sym c.if-is_rows.ensures) (grind (arith, common_steps)));
+      so_far = rw (c.in_ok-add_line.ensures, ← c.deref.ensures.value)
+          (at_good turn c.loop-rest.invariant.so_far (sym c.if-is_rows.ensures) (grind (arith, common_steps)));
     }
 
 pub returns : goal.returns

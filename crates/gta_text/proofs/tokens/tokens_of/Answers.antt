@@ -11,5 +11,6 @@ loop-first-preserved c =
     record {
       in_range = omega (arith, ap length front);
       so_far = rw (c.in_ok-push.ensures.items, c.split_at.ensures.back, c.token_at-kind.ensures.token)
-          (at_token c.loop-first.tokens.items _ c.loop-first.at c.in-Some.first.now c.in-Some.after.now (sym c.if-is_blank.ensures) (grind (arith, nat_tests)) so_far);
+          (at_token c.loop-first.tokens.items _ c.loop-first.at c.in-Some.first.now c.in-Some.after.now
+          (sym c.if-is_blank.ensures) (grind (arith, nat_tests)) so_far);
     }

@@ -15,4 +15,5 @@ returns-clause-few c =
 pub returns-clause-elements : goal.returns-clause-elements
 returns-clause-elements c name number =
     c.as_slice.ensures.value
-    ∙ elements_in-at c.args.lists.now.tables.items name c.args.number c.index.result.now number (omega arith) c.index.ensures
+    ∙ elements_in-at c.args.lists.now.tables.items name c.args.number c.index.result.now number (omega arith)
+    c.index.ensures

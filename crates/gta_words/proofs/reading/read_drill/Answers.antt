@@ -30,8 +30,10 @@ number-requires-4 c =
 
 pub returns-clause-command : goal.returns-clause-command
 returns-clause-command c =
-    taken_by c.in_ok-drill_command.field-0 drill_app drill_by _ (rows_of (found_of c.in_ok-matches.matches)) _ c.in_ok-drill_command.ensures
-    c.in_ok-matches.ensures.no_fault c.in_ok-matches.ensures.rows (rw (c.number.ensures, c.number-2.ensures, c.number-3.ensures, c.number-4.ensures) refl)
+    taken_by c.in_ok-drill_command.field-0 drill_app drill_by _ (rows_of (found_of c.in_ok-matches.matches)) _
+    c.in_ok-drill_command.ensures
+    c.in_ok-matches.ensures.no_fault c.in_ok-matches.ensures.rows
+    (rw (c.number.ensures, c.number-2.ensures, c.number-3.ensures, c.number-4.ensures) refl)
 
 pub returns-clause-within : goal.returns-clause-within
 returns-clause-within c =
@@ -39,4 +41,5 @@ returns-clause-within c =
     let rows = number_in _ _ _ _ has.rows_there in
     let workers = number_in _ _ _ _ has.options.workers in
     let leaf = number_in _ _ _ _ has.options.leaf in
-    rw (c.number-2.ensures, c.number-3.ensures, c.number-4.ensures) (rows.0, rows.1, (workers.0, workers.1, leaf.0, leaf.1))
+    rw (c.number-2.ensures, c.number-3.ensures, c.number-4.ensures)
+    (rows.0, rows.1, (workers.0, workers.1, leaf.0, leaf.1))

@@ -20,7 +20,8 @@ number-requires-2 c =
 
 pub returns-clause-command : goal.returns-clause-command
 returns-clause-command c =
-    taken_by c.in_ok-run_command.field-0 run_app run_by _ (rows_of (found_of c.in_ok-matches.matches)) _ c.in_ok-run_command.ensures
+    taken_by c.in_ok-run_command.field-0 run_app run_by _ (rows_of (found_of c.in_ok-matches.matches)) _
+    c.in_ok-run_command.ensures
     c.in_ok-matches.ensures.no_fault c.in_ok-matches.ensures.rows (rw (c.number.ensures, c.number-2.ensures) refl)
 
 pub returns-clause-within : goal.returns-clause-within

@@ -16,7 +16,8 @@ overflow_mul-key c =
     c.args.digits.now (omega arith) c.loop-k.key c.loop-k.invariant in
     let after = drop (c.loop-k.k + 1) c.args.parts.now in
     let le = horner-within c.loop-k.key (size_of c.index-parts-k.result) (get_or c.args.digits.now c.loop-k.k 0)
-    (keys_of after) (key_of (plain_components after) (drop (c.loop-k.k + 1) c.args.digits.now)) _ (keys_of-some after) more in
+    (keys_of after) (key_of (plain_components after) (drop (c.loop-k.k + 1) c.args.digits.now)) _
+    (keys_of-some after) more in
     let below = key_of-is_key (plain_components c.args.parts.now) c.args.digits.now c.requires.are_digits in
     let within = c.requires.within in
     rw c.size.ensures (omega arith)
@@ -28,7 +29,8 @@ overflow_add-key c =
     c.args.digits.now (omega arith) c.loop-k.key c.loop-k.invariant in
     let after = drop (c.loop-k.k + 1) c.args.parts.now in
     let le = horner-within c.loop-k.key (size_of c.index-parts-k.result) (get_or c.args.digits.now c.loop-k.k 0)
-    (keys_of after) (key_of (plain_components after) (drop (c.loop-k.k + 1) c.args.digits.now)) _ (keys_of-some after) more in
+    (keys_of after) (key_of (plain_components after) (drop (c.loop-k.k + 1) c.args.digits.now)) _
+    (keys_of-some after) more in
     let below = key_of-is_key (plain_components c.args.parts.now) c.args.digits.now c.requires.are_digits in
     let within = c.requires.within in
     rw c.size.ensures (omega arith)

@@ -5,4 +5,5 @@ use Rattle.runtime_tests.proofs.shared_board.offer_row.Given as goal
 
 abbrev pub invariant-loop : goal.invariant-loop
 invariant-loop l =
-    IsReady l.board l.seat × (l.seat.plan ≡ Some (record { rows = 200 })) × (l.piece ≡ record { lo = l.lo; hi = l.lo + 1; value = 1 })
+    IsReady l.board l.seat × (l.seat.plan ≡ Some (record { rows = 200 })) ×
+    (l.piece ≡ record { lo = l.lo; hi = l.lo + 1; value = 1 })

@@ -1,4 +1,5 @@
-use Rattle.semiring_kit.proofs.KitSums.{sum_counts, sum_tells, sum_is_greatest, sum_is_least, greatest_is_upper, least_is_lower}
+use Rattle.semiring_kit.proofs.KitSums.{sum_counts, sum_tells, sum_is_greatest, sum_is_least, greatest_is_upper}
+use Rattle.semiring_kit.proofs.KitSums.{least_is_lower}
 use Rattle.semiring_kit.proofs.aggregates.sums_are_aggregates.Goals as goal
 
 pub returns : goal.returns

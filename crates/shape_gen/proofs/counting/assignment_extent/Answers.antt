@@ -17,7 +17,8 @@ loop-row-preserved c =
     record {
       candidates =
           multiplied
-          ∙ cut-product EXTENT_CAP labels count c.loop-row.candidates c.requires.some_label c.loop-row.invariant.candidates
+          ∙ cut-product EXTENT_CAP labels count c.loop-row.candidates c.requires.some_label
+          c.loop-row.invariant.candidates
           ∙ rw (assignments-length-more labels c.loop-row.row) refl;
       marks =
           multiplied_marks

@@ -5,7 +5,8 @@ use Rattle.shape_gen.proofs.counting.sizes.Goals as goal
 
 pub returns-in-Prefixes-clause-candidates : goal.returns-in-Prefixes-clause-candidates
 returns-in-Prefixes-clause-candidates c =
-    let count = candidates_of_ends-length c.args.shape c.args.rows c.args.labels c.in-Prefixes.is in omega (arith, count)
+    let count = candidates_of_ends-length c.args.shape c.args.rows c.args.labels c.in-Prefixes.is in omega
+    (arith, count)
 
 pub returns-in-Prefixes-clause-marks : goal.returns-in-Prefixes-clause-marks
 returns-in-Prefixes-clause-marks c =

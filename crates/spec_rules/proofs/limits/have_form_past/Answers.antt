@@ -9,6 +9,10 @@ use Rattle.spec_rules.proofs.limits.have_form_past.Goals as goal
 
 pub returns : goal.returns
 returns c =
-    rw (any-map (λ case. case.form) (is_longer TERM_LIMIT) (map case_tree c.args.cases.now), any-map case_tree (λ case. is_longer TERM_LIMIT case.form) c.args.cases.now)
+    rw (
+      any-map (λ case. case.form) (is_longer TERM_LIMIT) (map case_tree c.args.cases.now),
+      any-map case_tree
+          (λ case. is_longer TERM_LIMIT case.form) c.args.cases.now,
+    )
     (any_from_yields_List (λ case. is_longer TERM_LIMIT (case_tree case).form) _ _ _ c.any.ensures.ran
     (YieldsList-from_slice c.args.cases.now cc) (λ x b q k. search rules))

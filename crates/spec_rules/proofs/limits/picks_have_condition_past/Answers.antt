@@ -9,6 +9,10 @@ use Rattle.spec_rules.proofs.limits.picks_have_condition_past.Goals as goal
 
 pub returns : goal.returns
 returns c =
-    rw (any-map (λ pick. pick.cond) (is_longer ATOM_LIMIT) (map pick_tree c.args.picks.now), any-map pick_tree (λ pick. is_longer ATOM_LIMIT pick.cond) c.args.picks.now)
+    rw (
+      any-map (λ pick. pick.cond) (is_longer ATOM_LIMIT) (map pick_tree c.args.picks.now),
+      any-map pick_tree
+          (λ pick. is_longer ATOM_LIMIT pick.cond) c.args.picks.now,
+    )
     (any_from_yields_List (λ pick. is_longer ATOM_LIMIT (pick_tree pick).cond) _ _ _ c.any.ensures.ran
     (YieldsList-from_slice c.args.picks.now cc) (λ x b q k. search rules))

@@ -15,6 +15,7 @@ pub returns-clause-within : goal.returns-clause-within
 returns-clause-within c = λ known.
     let whole : take c.loop-number.number c.args.names.now ≡ c.args.names.now =
     take_all c.loop-number.number c.args.names.now c.loop-number-test.false in
-    let past : number_of c.args.names.now c.args.name.now ≡ c.loop-number.number = rw whole at c.loop-number.invariant in
+    let past : number_of c.args.names.now c.args.name.now ≡ c.loop-number.number = rw whole at
+    c.loop-number.invariant in
     let below = number_of-within c.args.names.now c.args.name.now known in
     omega arith

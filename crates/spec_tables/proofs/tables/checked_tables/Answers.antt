@@ -12,10 +12,12 @@ use Rattle.spec_tables.specs.Faults.{fault_of, first_told, tables_fault}
 use Rattle.spec_tables.proofs.Rows.{table_ready, tables_in-next, no_table_line}
 use Rattle.spec_tables.proofs.Told.{first_told-none, first_told-push, faults-same, faults-more, told-ends}
 use Rattle.spec_tables.proofs.tables.checked_tables.Goals as goal
-use Rattle.spec_tables.proofs.tables.checked_tables.Goals.{in-Table+in_ok-made+in-Ok+in_ok-push-in-Ok, in-Table+in_ok-made+in-Err, in_default}
+use Rattle.spec_tables.proofs.tables.checked_tables.Goals.{in-Table+in_ok-made+in-Ok+in_ok-push-in-Ok}
+use Rattle.spec_tables.proofs.tables.checked_tables.Goals.{in-Table+in_ok-made+in-Err, in_default}
 
 pub loop-part-init : goal.loop-part-init
-loop-part-init c = record { told = sym first_told-none; tables = λ none. ap (map plain_named) c.new-tables.ensures.items }
+loop-part-init c = record
+    { told = sym first_told-none; tables = λ none. ap (map plain_named) c.new-tables.ensures.items }
 
 pub checked_table-requires : goal.checked_table-requires
 checked_table-requires c = record {
@@ -56,7 +58,8 @@ loop-part-preserved c =
           let faults = filter_map (fault_of all) so_far in
           record {
             told = w.first-is
-                ∙ ap Some (w.earlier.ensures ∙ ap (λ (o : Option TablesFault). earlier o w.in-Err.fault) c.loop-part.invariant.told)
+                ∙ ap Some (w.earlier.ensures
+                ∙ ap (λ (o : Option TablesFault). earlier o w.in-Err.fault) c.loop-part.invariant.told)
                 ∙ sym (first_told-push faults w.in-Err.fault)
                 ∙ ap first_told (sym (faults-more (fault_of all) so_far table w.in-Err.fault checked))
                 ∙ ap (λ (ts : List TableTree). first_told (filter_map (fault_of all) ts)) (sym more);
@@ -64,12 +67,14 @@ loop-part-preserved c =
           })
       | in_default w ↦ (
           let more : tables_in (map part_tree (take (i + 1) c.args.parts.now)) ≡ so_far =
-          next ∙ ap (λ (ts : List TableTree). so_far ++ ts) (no_table_line c.part-item.result.kind w.in_default.not-Table) ∙ append-nil so_far in
+          next ∙ ap (λ (ts : List TableTree). so_far ++ ts)
+          (no_table_line c.part-item.result.kind w.in_default.not-Table) ∙ append-nil so_far in
           record {
             told = w.first-is ∙ c.loop-part.invariant.told
                 ∙ ap (λ (ts : List TableTree). first_told (filter_map (fault_of all) ts)) (sym more);
             tables = λ none.
-                rw w.tables-is (c.loop-part.invariant.tables (sym w.first-is ∙ none) ∙ ap (map (named_table all)) (sym more));
+                rw w.tables-is (c.loop-part.invariant.tables (sym w.first-is ∙ none)
+                ∙ ap (map (named_table all)) (sym more));
           })
     ]
 

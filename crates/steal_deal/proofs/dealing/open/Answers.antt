@@ -13,4 +13,5 @@ zeros (suc n) (suc k) (suc b) = zeros n k b
 pub of_words-requires : goal.of_words-requires
 of_words-requires c = opening_keeps _ c.requires.some_workers _
     (let few = c.requires.few_workers in let row = c.no_draws-words.ensures in grind (arith, common_steps))
-    (λ b. ap (λ (l : List ℕ). slice_index (take c.args.workers l) b) c.no_draws-words.ensures ∙ zeros 64 c.args.workers b)
+    (λ b. ap (λ (l : List ℕ). slice_index (take c.args.workers l) b) c.no_draws-words.ensures
+    ∙ zeros 64 c.args.workers b)

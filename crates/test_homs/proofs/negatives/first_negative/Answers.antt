@@ -32,4 +32,5 @@ pub returns-clause-first : goal.returns-clause-first
 returns-clause-first c =
     sym (first_negative-nowhere c.args.checked.now (plain_rows c.args.rows.now) c.tests-tests.result.now.items
     c.tests-tests.ensures.tests
-    (λ k d below. c.loop-k.invariant k d (omega (arith, c.loop-k-test.false, c.len-k-end.ensures, c.tests-tests.result.now.ok))))
+    (λ k d below. c.loop-k.invariant k d
+    (omega (arith, c.loop-k-test.false, c.len-k-end.ensures, c.tests-tests.result.now.ok))))

@@ -9,7 +9,8 @@ use Rattle.test_homs.proofs.negatives.negative_at.Goals as goal
 
 pub returns-then-value-lt0 : goal.returns-then-value-lt0
 returns-then-value-lt0 c =
-    let same = to_z-of_z w128 c.value_of-value.result (record { sfits = c.value_of-value.type_inv }) ∙ c.value_of-value.ensures.value in
+    let same = to_z-of_z w128 c.value_of-value.result (record { sfits = c.value_of-value.type_inv })
+    ∙ c.value_of-value.ensures.value in
     let negative : ℤ → Negative =
     λ v. record { test = c.args.test; row = c.args.row; label = c.loop-label.label; value = v } in
     ap (λ v. Some (negative v)) same

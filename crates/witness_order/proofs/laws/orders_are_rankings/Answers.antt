@@ -1,4 +1,5 @@
-use Rattle.witness_order.proofs.Orders.{shortlex-IsRanking, shortlex-KeepsRanking, before-IsRanking, before-KeepsRanking}
+use Rattle.witness_order.proofs.Orders.{shortlex-IsRanking, shortlex-KeepsRanking, before-IsRanking}
+use Rattle.witness_order.proofs.Orders.{before-KeepsRanking}
 use Rattle.witness_order.proofs.laws.orders_are_rankings.Goals as goal
 
 pub returns : goal.returns

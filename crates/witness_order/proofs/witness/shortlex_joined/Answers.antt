@@ -11,9 +11,11 @@ use Rattle.witness_order.proofs.witness.shortlex_joined.Goals as goal
 
 pub returns-in-Equal : goal.returns-in-Equal
 returns-in-Equal c =
-    let even : nat_cmp (length c.args.a.now + length c.args.b.now) (length c.args.c.now + length c.args.d.now) ≡ Equal = search rules in
+    let even : nat_cmp (length c.args.a.now + length c.args.b.now) (length c.args.c.now + length c.args.d.now) ≡
+    Equal = search rules in
     shortlex_even mark_order c.args.a.now c.args.b.now c.args.c.now c.args.d.now _ even
     (cmp_from_yields_List (λ x y. y ≡ x) _ mark_order _ c.cmp-in-Equal.ensures.ran
     (YieldsList-from_chain (YieldsList-from_slice c.args.a.now cc) (YieldsList-from_slice c.args.b.now cc) (cc) (cc))
-    (λ it e. YieldsList-from_chain (YieldsList-from_slice c.args.c.now cc) (YieldsList-from_slice c.args.d.now cc) (cc) (cc))
+    (λ it e. YieldsList-from_chain (YieldsList-from_slice c.args.c.now cc) (YieldsList-from_slice c.args.d.now cc)
+    (cc) (cc))
     (λ x y. refl))

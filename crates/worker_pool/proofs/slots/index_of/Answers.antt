@@ -4,6 +4,8 @@ use Rattle.worker_pool.proofs.slots.index_of.Goals as goal
 
 pub returns : goal.returns
 returns c =
-    subst (λ r. MatchOption r ((j : ℕ) → j < length c.args.bounds.now → get_or c.args.bounds.now j 0 ≢ c.args.bound) (λ j. (j < length c.args.bounds.now) × (get_or c.args.bounds.now j 0 ≡ c.args.bound)))
+    subst (λ r. MatchOption r ((j : ℕ) → j < length c.args.bounds.now → get_or c.args.bounds.now j 0 ≢ c.args.bound)
+    (λ j. (j < length c.args.bounds.now) × (get_or c.args.bounds.now j 0 ≡ c.args.bound)))
     (sym c.ok.ensures.value)
-    (index_found c.args.bounds.now c.requires.rises c.args.bound c.binary_search.result c.binary_search.ensures.position)
+    (index_found c.args.bounds.now c.requires.rises c.args.bound c.binary_search.result
+    c.binary_search.ensures.position)

@@ -10,7 +10,9 @@ pub overflow_add-worker : goal.overflow_add-worker
 overflow_add-worker g c =
     let took = c.in-Leaf.ensures.next in
     let partition = c.draw.ensures.dealt.partition ∙ sym c.requires.at_work.hand.partition in
-    let few = few_taken c.draw.new.hand.view (dealt_with_leaf c.args.worker.now.hand.view c.draw.new.hand.view c.in-Leaf.number partition took c.requires.at_work.dealt) in
+    let few = few_taken c.draw.new.hand.view
+    (dealt_with_leaf c.args.worker.now.hand.view c.draw.new.hand.view c.in-Leaf.number partition took
+    c.requires.at_work.dealt) in
     let more : length c.draw.new.hand.view.taken ≡ length c.args.worker.now.hand.view.taken + 1 =
     ap (λ ys. length ys) took.joins ∙ length-append c.args.worker.now.hand.view.taken (c.in-Leaf.number ∷ []) in
     omega (
@@ -28,10 +30,12 @@ returns-in-Leaf-clause-at_work g c = record {
   plan_is = c.leaf.ensures.same.plan ∙ c.requires.at_work.plan_is;
   hand = c.draw.ensures.dealt;
   dealt = dealt_with_leaf c.args.worker.now.hand.view c.draw.new.hand.view c.in-Leaf.number
-      (c.draw.ensures.dealt.partition ∙ sym c.requires.at_work.hand.partition) c.in-Leaf.ensures.next c.requires.at_work.dealt;
+      (c.draw.ensures.dealt.partition ∙ sym c.requires.at_work.hand.partition) c.in-Leaf.ensures.next
+      c.requires.at_work.dealt;
   leaves_are = (
       let more : length c.draw.new.hand.view.taken ≡ length c.args.worker.now.hand.view.taken + 1 =
-      ap (λ ys. length ys) c.in-Leaf.ensures.next.joins ∙ length-append c.args.worker.now.hand.view.taken (c.in-Leaf.number ∷ []) in
+      ap (λ ys. length ys) c.in-Leaf.ensures.next.joins
+      ∙ length-append c.args.worker.now.hand.view.taken (c.in-Leaf.number ∷ []) in
       omega (arith, c.requires.at_work.leaves_are)
       );
 }
@@ -41,7 +45,8 @@ pair-requires-clause-at_work g c = λ κs low. record {
   ready = c.requires.at_work.ready;
   plan_is = c.requires.at_work.plan_is;
   hand = c.draw.ensures.dealt;
-  dealt = dealt_still c.args.worker.now.hand.view c.draw.new.hand.view (c.draw.ensures.dealt.partition ∙ sym c.requires.at_work.hand.partition)
+  dealt = dealt_still c.args.worker.now.hand.view c.draw.new.hand.view
+      (c.draw.ensures.dealt.partition ∙ sym c.requires.at_work.hand.partition)
       c.in-Empty.ensures.next.taken c.requires.at_work.dealt;
   leaves_are = c.requires.at_work.leaves_are ∙ ap (λ ys. length ys) (sym c.in-Empty.ensures.next.taken);
 }
@@ -49,7 +54,8 @@ pair-requires-clause-at_work g c = λ κs low. record {
 pub leaf-requires-clause-within : goal.leaf-requires-clause-within
 leaf-requires-clause-within g c =
     let cut = c.args.site.now.cut.now in
-    let hi : c.leaf_interval-lo.result.1 ≡ get_or cut (c.in-Leaf.number + 1) 0 = c.leaf_interval-lo.ensures.hi ∙ ap (λ bs. get_or bs (c.in-Leaf.number + 1) 0) c.bounds.ensures.bounds in
+    let hi : c.leaf_interval-lo.result.1 ≡ get_or cut (c.in-Leaf.number + 1) 0 = c.leaf_interval-lo.ensures.hi
+    ∙ ap (λ bs. get_or bs (c.in-Leaf.number + 1) 0) c.bounds.ensures.bounds in
     omega (
       arith,
       (leaf_within (g.F.Fused.rows c.args.site.now.plan.now) cut c.requires.site.cut c.in-Leaf.number (omega (
@@ -64,14 +70,20 @@ pub returns-in-Leaf-clause-turn : goal.returns-in-Leaf-clause-turn
 returns-in-Leaf-clause-turn g c =
     let cut = c.args.site.now.cut.now in
     let number = c.in-Leaf.number in
-    let lo : c.leaf_interval-lo.result.0 ≡ get_or cut number 0 = c.leaf_interval-lo.ensures.lo ∙ ap (λ bs. get_or bs number 0) c.bounds.ensures.bounds in
-    let hi : c.leaf_interval-lo.result.1 ≡ get_or cut (number + 1) 0 = c.leaf_interval-lo.ensures.hi ∙ ap (λ bs. get_or bs (number + 1) 0) c.bounds.ensures.bounds in
-    with_leaf g.F.Fused.rows g.F.Fused.stands cut c.args.worker.now _ number c.leaf.result refl c.in-Leaf.ensures.next.joins c.leaf.ensures.undrained
-    (subst (λ lo. LeafEnds g.F.Fused.rows g.F.Fused.stands c.args.worker.now.seat lo (get_or cut (number + 1) 0) c.leaf.result c.leaf.new.seat) lo
-    (subst (λ hi. LeafEnds g.F.Fused.rows g.F.Fused.stands c.args.worker.now.seat c.leaf_interval-lo.result.0 hi c.leaf.result c.leaf.new.seat) hi
+    let lo : c.leaf_interval-lo.result.0 ≡ get_or cut number 0 = c.leaf_interval-lo.ensures.lo
+    ∙ ap (λ bs. get_or bs number 0) c.bounds.ensures.bounds in
+    let hi : c.leaf_interval-lo.result.1 ≡ get_or cut (number + 1) 0 = c.leaf_interval-lo.ensures.hi
+    ∙ ap (λ bs. get_or bs (number + 1) 0) c.bounds.ensures.bounds in
+    with_leaf g.F.Fused.rows g.F.Fused.stands cut c.args.worker.now _ number c.leaf.result refl
+    c.in-Leaf.ensures.next.joins c.leaf.ensures.undrained
+    (subst (λ lo. LeafEnds g.F.Fused.rows g.F.Fused.stands c.args.worker.now.seat lo (get_or cut (number + 1) 0)
+    c.leaf.result c.leaf.new.seat) lo
+    (subst (λ hi. LeafEnds g.F.Fused.rows g.F.Fused.stands c.args.worker.now.seat c.leaf_interval-lo.result.0 hi
+    c.leaf.result c.leaf.new.seat) hi
     c.leaf.ensures.turn))
 
 pub returns-in-Empty-clause-turn : goal.returns-in-Empty-clause-turn
 returns-in-Empty-clause-turn g c =
-    after_no_leaf g.F.Fused.rows g.F.Fused.stands c.args.site.now.cut.now c.args.worker.now _ c.draw.new.hand c.pair.result c.in-Empty.ensures.next.taken
+    after_no_leaf g.F.Fused.rows g.F.Fused.stands c.args.site.now.cut.now c.args.worker.now _ c.draw.new.hand
+    c.pair.result c.in-Empty.ensures.next.taken
     c.pair.ensures.turn

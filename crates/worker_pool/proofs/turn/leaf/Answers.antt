@@ -5,7 +5,8 @@ use Rattle.worker_pool.proofs.turn.leaf.Goals as goal
 
 pub offer-requires-clause-stands : goal.offer-requires-clause-stands
 offer-requires-clause-stands g c = λ κs low.
-    subst (λ plan. IsStanding g.F.Fused.rows g.F.Fused.stands plan (record { lo = c.args.lo; hi = c.args.hi; value = c.in-Ok.value }))
+    subst (λ plan. IsStanding g.F.Fused.rows g.F.Fused.stands plan
+    (record { lo = c.args.lo; hi = c.args.hi; value = c.in-Ok.value }))
     (sym c.requires.plan)
     (record { nonempty = c.requires.nonempty; within = c.requires.within; value_stands = c.in-Ok.ensures.stands })
 

@@ -8,15 +8,18 @@ returns-in-Kept-clause-turn g c =
 
 pub returns-in-Overlaps-clause-turn : goal.returns-in-Overlaps-clause-turn
 returns-in-Overlaps-clause-turn g c =
-    refused_overlaps g.F.Fused.rows g.F.Fused.stands c.args.seat.now c.offer.new.seat c.in-Overlaps.ensures.same c.args.piece c.in-Overlaps.piece
+    refused_overlaps g.F.Fused.rows g.F.Fused.stands c.args.seat.now c.offer.new.seat c.in-Overlaps.ensures.same
+    c.args.piece c.in-Overlaps.piece
     c.in-Overlaps.ensures.answer c.requires.taken c.requires.stands
 
 pub returns-in-Full-clause-turn : goal.returns-in-Full-clause-turn
 returns-in-Full-clause-turn g c =
-    refused_full g.F.Fused.rows g.F.Fused.stands c.args.seat.now c.offer.new.seat c.in-Full.ensures.same c.args.piece c.in-Full.piece
+    refused_full g.F.Fused.rows g.F.Fused.stands c.args.seat.now c.offer.new.seat c.in-Full.ensures.same c.args.piece
+    c.in-Full.piece
     c.in-Full.ensures.answer c.requires.taken c.requires.stands
 
 pub returns-in-Busy-clause-turn : goal.returns-in-Busy-clause-turn
 returns-in-Busy-clause-turn g c =
-    offer_missed g.F.Fused.rows g.F.Fused.stands c.args.seat.now c.offer.new.seat c.in-Busy.ensures.same c.args.piece c.in-Busy.piece
+    offer_missed g.F.Fused.rows g.F.Fused.stands c.args.seat.now c.offer.new.seat c.in-Busy.ensures.same c.args.piece
+    c.in-Busy.piece
     c.in-Busy.ensures.answer c.requires.taken c.requires.stands

@@ -8,5 +8,6 @@ returns-in-Kept-clause-turn g c =
 
 pub returns-in-Busy-clause-turn : goal.returns-in-Busy-clause-turn
 returns-in-Busy-clause-turn g c =
-    missed_pair g.F.Fused.rows g.F.Fused.stands c.args.seat.now c.settle.new.seat c.args.taken c.in-Busy.taken c.args.value c.in-Busy.value
+    missed_pair g.F.Fused.rows g.F.Fused.stands c.args.seat.now c.settle.new.seat c.args.taken c.in-Busy.taken
+    c.args.value c.in-Busy.value
     c.in-Busy.ensures.answer c.requires.taken c.requires.pair c.requires.stands

@@ -10,5 +10,6 @@ returns-in_default-clause-account g c =
 
 pub returns-clause-end : goal.returns-clause-end
 returns-clause-end g c =
-    subst (λ ps. WorkEnds c.args.seat c.take_turns-stop.new.worker.seat c.take_turns-stop.new.worker.hand.view ps c.take_turns-stop.result.end) (sym c.into_pieces.ensures)
+    subst (λ ps. WorkEnds c.args.seat c.take_turns-stop.new.worker.seat c.take_turns-stop.new.worker.hand.view ps
+    c.take_turns-stop.result.end) (sym c.into_pieces.ensures)
     c.take_turns-stop.ensures.stop.ends

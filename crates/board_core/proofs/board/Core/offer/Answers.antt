@@ -8,11 +8,13 @@ use Rattle.board_core.proofs.board.Core.offer.Goals as goal
 
 pub lies_clear-requires-clause-apart : goal.lies_clear-requires-clause-apart
 lies_clear-requires-clause-apart g c =
-    held_apart (plain c.self.inside.rows c.self.inside.room c.self.inside.held.items c.self.inside.claims.items c.self.inside.log.items) c.self.invariant.sound.tidy
+    held_apart (plain c.self.inside.rows c.self.inside.room c.self.inside.held.items c.self.inside.claims.items
+    c.self.inside.log.items) c.self.invariant.sound.tidy
 
 pub lies_clear-requires-else-not-lies_clear-clause-apart : goal.lies_clear-requires-else-not-lies_clear-clause-apart
 lies_clear-requires-else-not-lies_clear-clause-apart g c =
-    claims_apart (plain c.self.inside.rows c.self.inside.room c.self.inside.held.items c.self.inside.claims.items c.self.inside.log.items) c.self.invariant.sound.tidy
+    claims_apart (plain c.self.inside.rows c.self.inside.room c.self.inside.held.items c.self.inside.claims.items
+    c.self.inside.log.items) c.self.invariant.sound.tidy
 
 pub returns-clause-answer : goal.returns-clause-answer
 returns-clause-answer g c = search rules

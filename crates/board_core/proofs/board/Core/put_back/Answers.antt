@@ -11,7 +11,8 @@ pub hold_again-requires-clause-right_rises : goal.hold_again-requires-clause-rig
 hold_again-requires-clause-right_rises g c =
     let P : PlainBoard g.row.V.Denot → Type 0 = λ b. IsSound b in
     let R : List (Piece g.row.V.Denot) → Type 0 = λ xs. IsRisingBy (λ p. p.lo) (put_piece c.args.taken.right xs) in
-    let held : c.self.inside.held.items ≡ c.args.self.now.held = ap (λ (b : PlainBoard g.row.V.Denot). b.held) c.self.view_is in
+    let held : c.self.inside.held.items ≡ c.args.self.now.held = ap (λ (b : PlainBoard g.row.V.Denot). b.held)
+    c.self.view_is in
     let sound : IsSound c.args.self.now = subst P c.self.view_is c.self.invariant.sound in
     subst R (sym held) (right_rises c.args.self.now sound.tidy c.args.taken c.requires.is_claim)
 
@@ -29,6 +30,12 @@ invariant_of-self g c = record {
   held_room = omega (arith, c.hold_again.ensures.held_capacity, c.self.invariant.held_room);
   claims_room = omega (arith, c.hold_again.ensures.claims_capacity, c.self.invariant.claims_room);
   log_room = omega (arith, c.append.ensures.capacity, c.self.invariant.log_room);
-  entries = omega (arith, c.hold_again.ensures.held_len, c.hold_again.ensures.claims_len, c.append.ensures.len, c.self.invariant.entries);
+  entries = omega (
+    arith,
+    c.hold_again.ensures.held_len,
+    c.hold_again.ensures.claims_len,
+    c.append.ensures.len,
+    c.self.invariant.entries,
+  );
   sound = returns-clause-sound g c;
 }

@@ -11,7 +11,8 @@ pub returns-clause-sound : goal.returns-clause-sound
 returns-clause-sound g c =
     let P : PlainBoard g.row.V.Denot → Type 0 = λ b. IsSound b in
     subst P (sym (returns-clause-settled g c))
-    (sound_settle c.args.self.now (subst P c.self.view_is c.self.invariant.sound) c.args.taken c.args.value c.requires.is_claim)
+    (sound_settle c.args.self.now (subst P c.self.view_is c.self.invariant.sound) c.args.taken c.args.value
+    c.requires.is_claim)
 
 pub invariant_of-self : goal.invariant_of-self
 invariant_of-self g c = record {

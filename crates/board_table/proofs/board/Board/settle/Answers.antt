@@ -9,8 +9,10 @@ settle-requires g c = record {
 
 pub free-requires-clause-home : goal.free-requires-clause-home
 free-requires-clause-home g c κs low =
-    settle_home g.F.Fused.rows g.F.Fused.stands _ _ _ c.in-Some.ensures.turn c.args.taken c.requires.is_claim _ _ c.requires.stands c.settle.ensures.settled
+    settle_home g.F.Fused.rows g.F.Fused.stands _ _ _ c.in-Some.ensures.turn c.args.taken c.requires.is_claim _ _
+    c.requires.stands c.settle.ensures.settled
 
 pub returns-clause-answer : goal.returns-clause-answer
 returns-clause-answer g c =
-    is_settled g.F.Fused.rows g.F.Fused.stands _ _ _ c.in-Some.ensures.turn c.args.taken c.requires.is_claim _ _ _ c.free.ensures.freed c.settle.ensures.settled
+    is_settled g.F.Fused.rows g.F.Fused.stands _ _ _ c.in-Some.ensures.turn c.args.taken c.requires.is_claim _ _ _
+    c.free.ensures.freed c.settle.ensures.settled

@@ -10,7 +10,8 @@ split_seat-raw-requires g c =
     let P : SeatSeen g.row.F.Denot → Type 0 = λ s. 1 ≤ s.spare in (
       own_table _ _ _ _ _ _ c.seat.view_is c.self.view_is c.requires.ready.table,
       omega arith,
-      share_allowed g.F.Fused.rows g.F.Fused.stands c.seat.inside.number c.seat.inside.spare c.seat.inside.raw.table_id c.self.inside.table.shared.key
+      share_allowed g.F.Fused.rows g.F.Fused.stands c.seat.inside.number c.seat.inside.spare
+          c.seat.inside.raw.table_id c.self.inside.table.shared.key
           c.seat.inside.raw.id c.seat.inside.raw.me c.seat.invariant
           (ap (λ (s : SeatSeen g.row.F.Denot). s.holds) c.seat.view_is ∙ c.requires.ready.turn)
           (subst P (sym c.seat.view_is) c.requires.spare),
@@ -18,5 +19,6 @@ split_seat-raw-requires g c =
 
 pub overflow_add-number : goal.overflow_add-number
 overflow_add-number g c =
-    let below = numbers_fit g.F.Fused.rows g.F.Fused.stands c.seat.inside.number c.seat.inside.spare c.seat.inside.raw.table_id c.seat.inside.raw.me c.seat.invariant in
+    let below = numbers_fit g.F.Fused.rows g.F.Fused.stands c.seat.inside.number c.seat.inside.spare
+    c.seat.inside.raw.table_id c.seat.inside.raw.me c.seat.invariant in
     omega arith

@@ -10,7 +10,8 @@ compare_exchange-requires g c =
     let one = c.self.invariant.words in (
       own_table _ _ _ _ _ _ c.seat.view_is c.self.view_is c.requires.ready.table,
       omega arith,
-      try_allowed g.F.Fused.rows g.F.Fused.stands c.seat.inside.number c.seat.inside.spare c.seat.inside.raw.table_id c.self.inside.table.shared.key
+      try_allowed g.F.Fused.rows g.F.Fused.stands c.seat.inside.number c.seat.inside.spare c.seat.inside.raw.table_id
+          c.self.inside.table.shared.key
           c.seat.inside.raw.id _ (step 1 0 0 1 none) c.seat.inside.raw.me c.seat.invariant
           (ap (λ (s : SeatSeen g.row.F.Denot). s.holds) c.seat.view_is ∙ c.requires.ready.turn),
     )
@@ -19,6 +20,7 @@ pub exchange-requires : goal.exchange-requires
 exchange-requires g c =
     let read = c.if-compare_exchange-ne0.false in (
       c.compare_exchange.ensures.0 ∙ own_table _ _ _ _ _ _ c.seat.view_is c.self.view_is c.requires.ready.table,
-      won_slot g.F.Fused.rows g.F.Fused.stands c.seat.inside.number c.seat.inside.spare c.seat.inside.raw.table_id (step 1 0 0 1 none) _ c.seat.inside.raw.me _ c.seat.invariant
+      won_slot g.F.Fused.rows g.F.Fused.stands c.seat.inside.number c.seat.inside.spare c.seat.inside.raw.table_id
+          (step 1 0 0 1 none) _ c.seat.inside.raw.me _ c.seat.invariant
           c.compare_exchange.ensures.2 (omega arith),
     )

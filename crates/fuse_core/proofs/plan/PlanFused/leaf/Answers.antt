@@ -2,7 +2,8 @@ use Rattle.std.proofs.Common.{◌≡◌, ◌∙◌, sym, ap, subst, ◌+◌, ◌
 use Rattle.fuse_core.specs.Wirings.{wires_on, all_shifts}
 use Rattle.fuse_core.specs.Places.{ShowEach}
 use Rattle.fuse_core.proofs.Costs.{row-cost, leaf-cost}
-use Rattle.fuse_core.proofs.Wired.{lists_at, brings, shape-shifts, width, made-grows, made-brings, none-shown, grown-shown}
+use Rattle.fuse_core.proofs.Wired.{lists_at, brings, shape-shifts, width, made-grows, made-brings, none-shown}
+use Rattle.fuse_core.proofs.Wired.{grown-shown}
 use Rattle.fuse_core.proofs.Planned.{shown, permuted, places-fit, places-follow, places-stand}
 use Rattle.fuse_core.proofs.plan.PlanFused.leaf.Goals as goal
 
@@ -44,14 +45,18 @@ with_row-requires g c =
     let below = c.loop-row.invariant.below in
     let within = c.requires.within in
     let next : c.loop-row.row ≡ row + 1 = omega (arith, above) in
-    let later = subst (λ n. ShowEach shows (lists_at p.shape p.labels n c.args.hi) maps) next c.loop-row.invariant.shows in
+    let later = subst (λ n. ShowEach shows (lists_at p.shape p.labels n c.args.hi) maps) next
+    c.loop-row.invariant.shows in
     record {
       row_in_range = omega (arith, above, below, within);
       one_a_component = c.loop-row.invariant.count ∙ sym (ap length c.deref-in-loop-row.ensures.value);
       wires_grow = rw c.deref-in-loop-row.ensures.value
-          (made-grows p.shape p.labels made is has.some_label (length maps) (c.loop-row.invariant.count ∙ width p.shape p.labels made is));
-      later_fit = places-fit laws monoid fits value_at p.shape p.rows p.labels p.letters has maps (row + 1) c.args.hi later;
-      follow = places-follow laws monoid fits value_at p.shape p.rows p.labels p.letters has maps row c.args.hi (omega (arith, above, below)) within later;
+          (made-grows p.shape p.labels made is has.some_label (length maps)
+          (c.loop-row.invariant.count ∙ width p.shape p.labels made is));
+      later_fit = places-fit laws monoid fits value_at p.shape p.rows p.labels p.letters has maps (row + 1) c.args.hi
+          later;
+      follow = places-follow laws monoid fits value_at p.shape p.rows p.labels p.letters has maps row c.args.hi
+          (omega (arith, above, below)) within later;
     }
 
 pub loop-row-preserved : goal.loop-row-preserved
@@ -72,7 +77,8 @@ loop-row-preserved g c =
     let below = c.loop-row.invariant.below in
     let next : c.loop-row.row ≡ row + 1 = omega (arith, above) in
     let row_below : row < c.args.hi = omega (arith, above, below) in
-    let later = subst (λ n. ShowEach shows (lists_at p.shape p.labels n c.args.hi) maps) next c.loop-row.invariant.shows in
+    let later = subst (λ n. ShowEach shows (lists_at p.shape p.labels n c.args.hi) maps) next
+    c.loop-row.invariant.shows in
     let count = c.in_ok-maps-2.ensures.count ∙ ap length c.deref-in-loop-row.ensures.value in
     let few = subst (λ w. all_shifts w ≤ 4 * (p.labels + 1)) (sym is) (shape-shifts p.shape p.labels) in
     let size = g.K.Keys.Monoid.size (g.K.MapKit.keys p.kit) in
@@ -83,9 +89,11 @@ loop-row-preserved g c =
       count = count;
       shows = grown-shown p.shape p.labels made is shows c.in_ok-maps-2.maps.items count
           (permuted laws monoid fits value_at p.shape p.rows p.labels p.letters has) row c.args.hi row_below
-          ((rw c.deref-in-loop-row.ensures.value at c.in_ok-maps-2.ensures.shows) (lists_at p.shape p.labels (row + 1) c.args.hi)
+          ((rw c.deref-in-loop-row.ensures.value at c.in_ok-maps-2.ensures.shows)
+          (lists_at p.shape p.labels (row + 1) c.args.hi)
           (brings p.shape p.labels row c.args.hi) (made-brings p.shape p.labels made is row c.args.hi row_below) later);
-      cost = leaf-cost size p.labels (c.args.hi - c.loop-row.row) (c.args.hi - row) c.args.steps.now c.loop-row.steps c.with_row.new.steps
+      cost = leaf-cost size p.labels (c.args.hi - c.loop-row.row) (c.args.hi - row) c.args.steps.now c.loop-row.steps
+          c.with_row.new.steps
           fewer c.loop-row.invariant.cost
           (row-cost (all_shifts (map wires_on made)) size p.labels c.loop-row.steps c.with_row.new.steps few
           (rw c.deref-in-loop-row.ensures.value at c.in_ok-maps-2.ensures.cost));
@@ -102,7 +110,8 @@ returns-in_err-maps-2-clause-cost g c =
     let few = subst (λ w. all_shifts w ≤ 4 * (p.labels + 1)) (sym is) (shape-shifts p.shape p.labels) in
     let size = g.K.Keys.Monoid.size (g.K.MapKit.keys p.kit) in
     let fewer : (c.args.hi - c.loop-row.row) + 1 ≤ c.args.hi - c.args.lo = omega (arith, order, below, above) in
-    leaf-cost size p.labels (c.args.hi - c.loop-row.row) (c.args.hi - c.args.lo) c.args.steps.now c.loop-row.steps c.with_row.new.steps
+    leaf-cost size p.labels (c.args.hi - c.loop-row.row) (c.args.hi - c.args.lo) c.args.steps.now c.loop-row.steps
+    c.with_row.new.steps
     fewer c.loop-row.invariant.cost
     (row-cost (all_shifts (map wires_on made)) size p.labels c.loop-row.steps c.with_row.new.steps few
     (rw c.deref-in-loop-row.ensures.value at c.in_err-maps-2.ensures.cost))
@@ -127,5 +136,6 @@ returns g c =
       stands = places-stand laws monoid fits value_at p.shape p.rows p.labels p.letters has maps c.args.lo c.args.hi
           (c.loop-row.invariant.count ∙ width p.shape p.labels made is)
           (subst (λ n. ShowEach shows (lists_at p.shape p.labels n c.args.hi) maps) first c.loop-row.invariant.shows);
-      cost = subst (λ n. c.loop-row.steps ≤ c.args.steps.now + 4 * (c.args.hi - n) * size * (p.labels + 1)) first c.loop-row.invariant.cost;
+      cost = subst (λ n. c.loop-row.steps ≤ c.args.steps.now + 4 * (c.args.hi - n) * size * (p.labels + 1)) first
+          c.loop-row.invariant.cost;
     }

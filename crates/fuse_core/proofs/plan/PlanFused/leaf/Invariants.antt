@@ -12,10 +12,12 @@ invariant-loop-row g l = record {
   count : length l.maps.items ≡ length l.wiring.items;
   shows : ShowEach
       (λ lists m. Shows (g.K.Kit.Semiring.ring (g.K.MapKit.kit l.self.kit))
-      (key_of (g.K.Keys.Monoid.unit (g.K.MapKit.keys l.self.kit)) (g.K.Keys.Monoid.mul (g.K.MapKit.keys l.self.kit)) l.self.labels l.self.letters)
+      (key_of (g.K.Keys.Monoid.unit (g.K.MapKit.keys l.self.kit)) (g.K.Keys.Monoid.mul (g.K.MapKit.keys l.self.kit))
+      l.self.labels l.self.letters)
       (weight_of (g.K.Kit.Semiring.ring (g.K.MapKit.kit l.self.kit)) l.self.labels l.self.letters)
       (g.K.MapKit.fits l.self.kit)
       (g.K.MapKit.value_at l.self.kit) lists m)
       (lists_at l.self.shape l.self.labels l.row l.hi) l.maps.items;
-  cost : l.steps ≤ l.fn.steps + 4 * (l.hi - l.row) * g.K.Keys.Monoid.size (g.K.MapKit.keys l.self.kit) * (l.self.labels + 1);
+  cost : l.steps ≤ l.fn.steps + 4 * (l.hi - l.row) * g.K.Keys.Monoid.size (g.K.MapKit.keys l.self.kit) *
+      (l.self.labels + 1);
 }

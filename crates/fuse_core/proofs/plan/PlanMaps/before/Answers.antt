@@ -8,35 +8,42 @@ shifted-requires g c =
     let row_in = rw (← c.self.view_is) at c.requires.row_in_range in
     let label_in = rw (← c.self.view_is) at c.requires.label_in_range in
     record {
-      key_is_element = letter-key (g.met.K.Kit.Semiring.laws (g.K.MapKit.kit c.self.inside.kit)) (g.met.K.Keys.Monoid.laws (g.K.MapKit.keys c.self.inside.kit))
+      key_is_element = letter-key (g.met.K.Kit.Semiring.laws (g.K.MapKit.kit c.self.inside.kit))
+          (g.met.K.Keys.Monoid.laws (g.K.MapKit.keys c.self.inside.kit))
           (g.K.MapKit.fits c.self.inside.kit) (g.K.MapKit.value_at c.self.inside.kit)
           c.self.inside.shape c.self.inside.rows c.self.inside.labels c.self.inside.letters.items c.self.invariant
           c.args.row c.args.label c.index-letter.result.now row_in label_in c.index-letter.ensures;
-      elem_is_good = letter-is_good (g.met.K.Kit.Semiring.laws (g.K.MapKit.kit c.self.inside.kit)) (g.met.K.Keys.Monoid.laws (g.K.MapKit.keys c.self.inside.kit))
+      elem_is_good = letter-is_good (g.met.K.Kit.Semiring.laws (g.K.MapKit.kit c.self.inside.kit))
+          (g.met.K.Keys.Monoid.laws (g.K.MapKit.keys c.self.inside.kit))
           (g.K.MapKit.fits c.self.inside.kit) (g.K.MapKit.value_at c.self.inside.kit)
           c.self.inside.shape c.self.inside.rows c.self.inside.labels c.self.inside.letters.items c.self.invariant
           c.args.row c.args.label c.index-letter.result.now row_in label_in c.index-letter.ensures;
       fits = rw (← c.self.view_is) at c.requires.later_fits;
-      reaches_add_up = letter-reach (g.met.K.Kit.Semiring.laws (g.K.MapKit.kit c.self.inside.kit)) (g.met.K.Keys.Monoid.laws (g.K.MapKit.keys c.self.inside.kit))
+      reaches_add_up = letter-reach (g.met.K.Kit.Semiring.laws (g.K.MapKit.kit c.self.inside.kit))
+          (g.met.K.Keys.Monoid.laws (g.K.MapKit.keys c.self.inside.kit))
           (g.K.MapKit.fits c.self.inside.kit) (g.K.MapKit.value_at c.self.inside.kit)
           c.self.inside.shape c.self.inside.rows c.self.inside.labels c.self.inside.letters.items c.self.invariant
-          c.args.row c.args.label c.index-letter.result.now (g.K.MapKit.value_at c.self.inside.kit c.args.later.now) row_in label_in c.index-letter.ensures
+          c.args.row c.args.label c.index-letter.result.now (g.K.MapKit.value_at c.self.inside.kit c.args.later.now)
+          row_in label_in c.index-letter.ensures
           (rw (← c.self.view_is) at c.requires.follows);
     }
 
 pub returns-clause-shows : goal.returns-clause-shows
 returns-clause-shows g c =
     rw (← c.self.view_is) (if_ok-both _ _ _
-    (λ z fits value ds shown. before-value (g.met.K.Kit.Semiring.laws (g.K.MapKit.kit c.self.inside.kit)) (g.met.K.Keys.Monoid.laws (g.K.MapKit.keys c.self.inside.kit))
+    (λ z fits value ds shown. before-value (g.met.K.Kit.Semiring.laws (g.K.MapKit.kit c.self.inside.kit))
+    (g.met.K.Keys.Monoid.laws (g.K.MapKit.keys c.self.inside.kit))
     (g.K.MapKit.fits c.self.inside.kit) (g.K.MapKit.value_at c.self.inside.kit)
     c.self.inside.shape c.self.inside.rows c.self.inside.labels c.self.inside.letters.items c.self.invariant
     c.args.row c.args.label c.index-letter.result.now c.args.later.now z
-    (rw (← c.self.view_is) at c.requires.row_in_range) (rw (← c.self.view_is) at c.requires.label_in_range) c.index-letter.ensures
+    (rw (← c.self.view_is) at c.requires.row_in_range) (rw (← c.self.view_is) at c.requires.label_in_range)
+    c.index-letter.ensures
     fits value ds shown)
     c.shifted.result c.shifted.ensures.fits c.shifted.ensures.value)
 
 pub returns-clause-cost : goal.returns-clause-cost
 returns-clause-cost g c =
-    let few = g.met.K.MapKit.few_kept c.self.inside.kit c.args.later.now (rw (← c.self.view_is) at c.requires.later_fits) in
+    let few = g.met.K.MapKit.few_kept c.self.inside.kit c.args.later.now
+    (rw (← c.self.view_is) at c.requires.later_fits) in
     let cost = c.shifted.ensures.cost in
     rw (← c.self.view_is) (omega (arith, few, cost))

@@ -24,5 +24,6 @@ returns-clause-added c = λ s x.
     sym (at_key _ s x)
     ∙ c.in_ok-insert.ensures.updates.0 (s, record { ref_ptr = (0, 0); now = x })
     ∙ rw (equal_keys scope name s x, at_key old s x) refl
-    ∙ put_at (known_at old) scope name c.args.found (sym (c.if-contains_key.ensures ∙ ap is_some (at_key old scope name)))
+    ∙ put_at (known_at old) scope name c.args.found
+    (sym (c.if-contains_key.ensures ∙ ap is_some (at_key old scope name)))
     s x

@@ -11,8 +11,10 @@ returns-clause-gathered g c =
     c.requires.key_is_in_row c.requires.row_is_good c.requires.elem_is_good
     (rw c.take.ensures.value c.index_mut.ensures.value)
     (elim c.match-take.branch [
-      | in-None w ↦ taken_none laws c.take.result c.match-take.sum c.args.elem c.requires.elem_is_good w.in-None.is w.sum-is
-      | in-Some+in_ok-sum-in-Some w ↦ taken_some laws c.take.result w.in-Some.held c.match-take.sum c.args.elem w.in-Some.is (w.sum-is ∙ w.in_ok-sum-in-Some.ensures)
+      | in-None w ↦ taken_none laws c.take.result c.match-take.sum c.args.elem c.requires.elem_is_good w.in-None.is
+          w.sum-is
+      | in-Some+in_ok-sum-in-Some w ↦ taken_some laws c.take.result w.in-Some.held c.match-take.sum c.args.elem
+          w.in-Some.is (w.sum-is ∙ w.in_ok-sum-in-Some.ensures)
     ])
 
 pub returns-clause-few : goal.returns-clause-few

@@ -26,8 +26,10 @@ gather-requires g c =
     let left = c.args.left.now in
     let slot = c.slot-item.result in
     let slot_in = IsIn-read c.args.right.now c.loop-slot.slot-index slot c.loop-slot-test.true c.slot-item.is in
-    let product_key = monoid.product_is_element left.key slot.key c.requires.left_is_element (c.requires.right_are_elements slot slot_in) in
-    let product_good = mul_is_good laws left.elem slot.elem c.requires.left_is_good (c.requires.right_are_good slot slot_in)
+    let product_key = monoid.product_is_element left.key slot.key c.requires.left_is_element
+    (c.requires.right_are_elements slot slot_in) in
+    let product_good = mul_is_good laws left.elem slot.elem c.requires.left_is_good
+    (c.requires.right_are_good slot slot_in)
     (c.requires.reaches_add_up slot slot_in) in
     record {
       key_is_in_row =
@@ -36,7 +38,8 @@ gather-requires g c =
           let size = c.requires.row_has_size in
           omega (arith, product_key);
       row_is_good = c.loop-slot.invariant.gathered.values_are_good;
-      elem_is_good = subst (IsGood (g.S.Semiring.ring c.args.self.now.kit)) (sym (ap elem_of c.in_ok-product.ensures.product)) product_good;
+      elem_is_good = subst (IsGood (g.S.Semiring.ring c.args.self.now.kit))
+          (sym (ap elem_of c.in_ok-product.ensures.product)) product_good;
     }
 
 pub loop-slot-init : goal.loop-slot-init
@@ -54,15 +57,18 @@ loop-slot-preserved g c =
     let left = c.args.left.now in
     let slot = c.slot-item.result in
     record {
-      gathered = gathered-more laws (λ slot k. product_at ring times left slot k) c.args.right.now c.loop-slot.slot-index slot
+      gathered = gathered-more laws (λ slot k. product_at ring times left slot k) c.args.right.now
+          c.loop-slot.slot-index slot
           (λ k. masked ring (nat_eq c.in_ok-product.product.key k) c.in_ok-product.product.elem)
           c.args.row.now.items c.loop-slot.row.items c.gather.new.row.items
           c.requires.row_is_good
-          (λ other other_in k. (masked_is_good laws (nat_eq (times left.key other.key) k) (ring.mul left.elem other.elem)
+          (λ other other_in k. (masked_is_good laws (nat_eq (times left.key other.key) k)
+          (ring.mul left.elem other.elem)
           (mul_is_good laws left.elem other.elem c.requires.left_is_good
           (c.requires.right_are_good other other_in) (c.requires.reaches_add_up other other_in))).sound)
           c.loop-slot-test.true c.slot-item.is
-          (λ k. ap (λ product. masked ring (nat_eq (key_of product) k) (elem_of product)) c.in_ok-product.ensures.product)
+          (λ k. ap (λ product. masked ring (nat_eq (key_of product) k) (elem_of product))
+          c.in_ok-product.ensures.product)
           c.loop-slot.invariant.gathered c.in_ok-gather.ensures.gathered;
       few =
           let added = c.in_ok-gather.ensures.few in

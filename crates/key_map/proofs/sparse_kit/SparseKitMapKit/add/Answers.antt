@@ -32,7 +32,8 @@ loop-sums-preserved g c =
     let next = next_of laws size a b c.requires.left_fits c.requires.right_fits sums left right c.loop-sums.invariant
     c.in_ok-slot.field-0 c.in_ok-slot.ensures c.in-Some.slot c.in-Some.is in
     rw (c.in_ok-push.ensures.items, c.after_key-left.ensures, c.after_key-right.ensures)
-    (merging-step laws size a b c.requires.left_fits c.requires.right_fits sums left right c.in-Some.slot _ _ c.loop-sums.invariant next)
+    (merging-step laws size a b c.requires.left_fits c.requires.right_fits sums left right c.in-Some.slot _ _
+    c.loop-sums.invariant next)
 
 pub loop-sums-smaller : goal.loop-sums-smaller
 loop-sums-smaller g c =
@@ -53,8 +54,10 @@ returns g c =
     let a = c.args.a.now.items in
     let b = c.args.b.now.items in
     let merging = c.loop-sums.invariant in
-    let none = none_left laws size a b c.requires.left_fits c.requires.right_fits c.loop-sums.sums.items c.loop-sums.left.now
+    let none = none_left laws size a b c.requires.left_fits c.requires.right_fits c.loop-sums.sums.items
+    c.loop-sums.left.now
     c.loop-sums.right.now merging c.in_ok-slot.field-0 c.in_ok-slot.ensures c.in_default.is in
-    let all = merging-end laws size a b c.requires.left_fits c.requires.right_fits c.loop-sums.sums.items c.loop-sums.left.now
+    let all = merging-end laws size a b c.requires.left_fits c.requires.right_fits c.loop-sums.sums.items
+    c.loop-sums.left.now
     c.loop-sums.right.now merging none.0 none.1 in
     record { fits = all.0; value = all.1; kept = all.2 }

@@ -8,7 +8,9 @@ use Rattle.key_map.specs.Slots.{value_in, products_at, FitsSlots}
 use Rattle.key_map.specs.Rows.{slots_from}
 use Rattle.key_map.proofs.Slots.{fits-keys, fits-good, slots_from-empty}
 use Rattle.key_map.proofs.Rows.{gathered-none, gathered-more, gathered-all}
-use Rattle.key_map.proofs.Maps.{empty-length, empty-IsGoodRow, keys-below, given-good, reaches-at_slots, products-are_sound, gathered-convolution, convolution-is_sound, slots-fit, slots-value}
+use Rattle.key_map.proofs.Maps.{empty-length, empty-IsGoodRow, keys-below, given-good, reaches-at_slots}
+use Rattle.key_map.proofs.Maps.{products-are_sound, gathered-convolution, convolution-is_sound, slots-fit}
+use Rattle.key_map.proofs.Maps.{slots-value}
 use Rattle.key_map.proofs.sparse_kit.SparseKitMapKit.convolve.Goals as goal
 
 pub gather_products-requires : goal.gather_products-requires
@@ -30,7 +32,8 @@ gather_products-requires g c =
       left_is_good = fits-good ring 0 size a c.requires.left_fits left left_in;
       right_are_good = given-good ring size b c.deref.result.now c.deref.ensures.value c.requires.right_fits;
       reaches_add_up = λ right right_in.
-          reaches-at_slots laws size a b c.requires.left_fits c.requires.right_fits c.requires.reaches_add_up left left_in
+          reaches-at_slots laws size a b c.requires.left_fits c.requires.right_fits c.requires.reaches_add_up left
+          left_in
           right (subst (IsIn right) c.deref.ensures.value right_in);
     }
 
@@ -43,7 +46,8 @@ loop-left-init g c =
     let empty = rw c.size.ensures at c.in_ok-row.ensures in
     record {
       gathered = gathered-none laws row (empty-IsGoodRow ring size row empty);
-      few = let none = ap (λ r. length (slots_from 0 r)) empty ∙ ap length (slots_from-empty 0 size) in omega (arith, none);
+      few = let none = ap (λ r. length (slots_from 0 r)) empty
+          ∙ ap length (slots_from-empty 0 size) in omega (arith, none);
       cost = omega arith;
     }
 
@@ -116,11 +120,14 @@ returns g c =
     let gathered = rw c.deref-left-items.ensures.value at
     (gathered-all laws (λ left k. products_at ring times left b k)
     c.deref-left-items.result.now i row new c.loop-left-test.false c.loop-left.invariant.gathered) in
-    let convolved = gathered-convolution laws size a b c.requires.left_fits c.requires.right_fits times row new gathered in
+    let convolved = gathered-convolution laws size a b c.requires.left_fits c.requires.right_fits times row new
+    gathered in
     let added = convolution ring size times (value_in ring.zero a) (value_in ring.zero b) in
     record {
-      fits = IfOk-weaker c.slots_of.result (λ slots. slots.items ≡ slots_from 0 new) (λ slots. FitsSlots ring 0 size slots.items)
-          (λ slots is. subst (FitsSlots ring 0 size) (sym is) (slots-fit laws size row new added empty convolved)) c.slots_of.ensures;
+      fits = IfOk-weaker c.slots_of.result (λ slots. slots.items ≡ slots_from 0 new)
+          (λ slots. FitsSlots ring 0 size slots.items)
+          (λ slots is. subst (FitsSlots ring 0 size) (sym is) (slots-fit laws size row new added empty convolved))
+          c.slots_of.ensures;
       value = IfOk-weaker c.slots_of.result (λ slots. slots.items ≡ slots_from 0 new)
           (λ slots. (k : ℕ) → value_in ring.zero slots.items k ≡ added k)
           (λ slots is k. ap (λ items. value_in ring.zero items k) is
@@ -131,8 +138,10 @@ returns g c =
           let all = ap length c.deref-left-items.ensures.value in
           let end = c.loop-left.auto.left-index-end in
           let within : i ≤ length a = omega arith in
-          IfOk-weaker c.slots_of.result (λ slots. slots.items ≡ slots_from 0 new) (λ slots. length slots.items ≤ length a * length b)
-          (λ slots is. let count = ap length is in omega (arith, count, before, mul-le-mul_left (length b) within)) c.slots_of.ensures;
+          IfOk-weaker c.slots_of.result (λ slots. slots.items ≡ slots_from 0 new)
+          (λ slots. length slots.items ≤ length a * length b)
+          (λ slots is. let count = ap length is in omega (arith, count, before, mul-le-mul_left (length b) within))
+          c.slots_of.ensures;
       cost =
           let before = c.loop-left.invariant.cost in
           let all = ap length c.deref-left-items.ensures.value in

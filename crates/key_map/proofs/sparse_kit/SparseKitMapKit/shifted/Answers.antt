@@ -21,8 +21,10 @@ product-requires g c =
       right_is_element = fits-keys ring 0 size map c.requires.fits slot slot_in;
       left_is_good = c.requires.elem_is_good;
       right_is_good = fits-good ring 0 size map c.requires.fits slot slot_in;
-      reaches_add_up = shift-reach (g.met.S.Semiring.laws c.args.self.now.kit) (g.met.M.Monoid.laws c.args.self.now.keys)
-          c.args.key c.args.elem.now map c.requires.key_is_element c.requires.elem_is_good c.requires.fits c.requires.reaches_add_up slot slot_in;
+      reaches_add_up = shift-reach (g.met.S.Semiring.laws c.args.self.now.kit)
+          (g.met.M.Monoid.laws c.args.self.now.keys)
+          c.args.key c.args.elem.now map c.requires.key_is_element c.requires.elem_is_good c.requires.fits
+          c.requires.reaches_add_up slot slot_in;
     }
 
 pub put-requires-clause-is_element : goal.put-requires-clause-is_element
@@ -48,10 +50,14 @@ put-requires-clause-is_good g c =
 pub loop-slot-preserved : goal.loop-slot-preserved
 loop-slot-preserved g c =
     record {
-      shifting = rw c.deref-slot-items.ensures.value (shifting-more (g.met.S.Semiring.laws c.args.self.now.kit) (g.met.M.Monoid.laws c.args.self.now.keys)
-          c.args.key c.args.elem.now c.args.map.now.items c.requires.key_is_element c.requires.elem_is_good c.requires.fits
-          c.requires.reaches_add_up c.loop-slot.slot-index c.slot-item.result c.in_ok-product.product c.loop-slot.slots.items c.put.new.slots.items
-          (rw c.deref-slot-items.ensures.value at c.loop-slot-test.true) (rw c.deref-slot-items.ensures.value at c.slot-item.is)
+      shifting = rw c.deref-slot-items.ensures.value
+          (shifting-more (g.met.S.Semiring.laws c.args.self.now.kit) (g.met.M.Monoid.laws c.args.self.now.keys)
+          c.args.key c.args.elem.now c.args.map.now.items c.requires.key_is_element c.requires.elem_is_good
+          c.requires.fits
+          c.requires.reaches_add_up c.loop-slot.slot-index c.slot-item.result c.in_ok-product.product
+          c.loop-slot.slots.items c.put.new.slots.items
+          (rw c.deref-slot-items.ensures.value at c.loop-slot-test.true)
+          (rw c.deref-slot-items.ensures.value at c.slot-item.is)
           c.in_ok-product.ensures.product
           (rw c.deref-slot-items.ensures.value at c.loop-slot.invariant.shifting) c.in_ok-put.ensures);
       cost =
@@ -64,7 +70,8 @@ pub returns-clause-value : goal.returns-clause-value
 returns-clause-value g c =
     let ring = g.S.Semiring.ring c.args.self.now.kit in
     IfOk-weaker c.collect.result _ _
-    (λ map sums k. sums k ∙ shifting-all (g.met.S.Semiring.laws c.args.self.now.kit) (g.met.M.Monoid.laws c.args.self.now.keys)
+    (λ map sums k. sums k
+    ∙ shifting-all (g.met.S.Semiring.laws c.args.self.now.kit) (g.met.M.Monoid.laws c.args.self.now.keys)
     c.args.key c.args.elem.now c.args.map.now.items c.requires.key_is_element c.requires.elem_is_good c.requires.fits
     c.requires.reaches_add_up c.loop-slot.slot-index c.loop-slot.slots.items
     (rw c.deref-slot-items.ensures.value at c.loop-slot-test.false)

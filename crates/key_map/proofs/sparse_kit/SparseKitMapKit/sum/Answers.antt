@@ -31,10 +31,17 @@ loop-right-preserved g c =
     let left = c.loop-right.left.items in
     let right = c.loop-right.right.items in
     let sums = c.loop-right.sums.items in
-    let next = next_of laws size c.args.a.items c.args.b.items c.requires.left_fits c.requires.right_fits sums left right
+    let next = next_of laws size c.args.a.items c.args.b.items c.requires.left_fits c.requires.right_fits sums left
+    right
     c.loop-right.invariant c.in_ok-slot.field-0 c.in_ok-slot.ensures.least c.in-Some.slot c.in-Some.is in
-    rw (c.in_ok-push.ensures.items, rw c.in-Some.is at c.in_ok-slot.ensures.left, rw c.in-Some.is at c.in_ok-slot.ensures.right)
-    (merging-step laws size c.args.a.items c.args.b.items c.requires.left_fits c.requires.right_fits sums left right c.in-Some.slot _ _
+    rw (
+      c.in_ok-push.ensures.items,
+      rw c.in-Some.is at c.in_ok-slot.ensures.left,
+      rw c.in-Some.is at
+          c.in_ok-slot.ensures.right,
+    )
+    (merging-step laws size c.args.a.items c.args.b.items c.requires.left_fits c.requires.right_fits sums left right
+    c.in-Some.slot _ _
     c.loop-right.invariant next)
 
 pub loop-right-smaller : goal.loop-right-smaller
@@ -57,7 +64,8 @@ returns-then-is_empty-clause-value g c k =
     let b = c.args.b.items in
     let zero = eqb-true (vec_len c.args.a) 0 (sym c.is_empty.ensures ∙ c.if-is_empty.true) in
     let none = no_item c.args.a.items (omega (arith, zero)) in
-    sym (laws.addition.monoid.left_identity (value_in ring.zero b k) (value_in_is_good laws 0 size b k c.requires.right_fits).sound)
+    sym (laws.addition.monoid.left_identity (value_in ring.zero b k)
+    (value_in_is_good laws 0 size b k c.requires.right_fits).sound)
     ∙ ap (λ slots. ring.add (value_in ring.zero slots k) (value_in ring.zero b k)) (sym none)
 
 pub returns : goal.returns
@@ -67,8 +75,10 @@ returns g c =
     let a = c.args.a.items in
     let b = c.args.b.items in
     let merging = c.loop-right.invariant in
-    let none = none_left laws size a b c.requires.left_fits c.requires.right_fits c.loop-right.sums.items c.loop-right.left.items
+    let none = none_left laws size a b c.requires.left_fits c.requires.right_fits c.loop-right.sums.items
+    c.loop-right.left.items
     c.loop-right.right.items merging c.in_ok-slot.field-0 c.in_ok-slot.ensures.least c.in_default.is in
-    let all = merging-end laws size a b c.requires.left_fits c.requires.right_fits c.loop-right.sums.items c.loop-right.left.items
+    let all = merging-end laws size a b c.requires.left_fits c.requires.right_fits c.loop-right.sums.items
+    c.loop-right.left.items
     c.loop-right.right.items merging none.0 none.1 in
     record { fits = all.0; value = all.1; kept = all.2 }

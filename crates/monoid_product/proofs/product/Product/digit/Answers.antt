@@ -5,4 +5,5 @@ use Rattle.monoid_product.proofs.product.Product.digit.Goals as goal
 
 pub returns-clause-undone : goal.returns-clause-undone
 returns-clause-undone c =
-    key_of-digits (plain_parts c.args.self.now) (plain_component-AreMonoids c.args.self.now.parts) c.args.key c.requires.is_key
+    key_of-digits (plain_parts c.args.self.now) (plain_component-AreMonoids c.args.self.now.parts) c.args.key
+    c.requires.is_key

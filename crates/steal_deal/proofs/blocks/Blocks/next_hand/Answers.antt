@@ -10,7 +10,8 @@ split_seat-seat-requires c =
     let rule = c.self.invariant in
     let some_workers = rule.some_workers in
     let words = rule.words in
-    let spare : c.last.inside.seat.me.0.spare ≡ c.args.last.now.view.spare = ap (λ (h : HandSeen). h.view.spare) c.last.view_is in
+    let spare : c.last.inside.seat.me.0.spare ≡ c.args.last.now.view.spare = ap (λ (h : HandSeen). h.view.spare)
+    c.last.view_is in
     let asked = c.requires.spare in (
       dealt.table,
       omega arith,

@@ -14,14 +14,17 @@ fetch_add-place-requires c =
     let blocks = c.blocks-2.inside in
     let rule = c.blocks-2.invariant in
     let dealt = dealt_inside _ _ _ _ c.blocks-2.view_is c.self.view_is c.requires.dealt in
-    let workers : blocks.partition.workers ≡ c.args.blocks.now.partition.workers = ap (λ (b : BlocksSeen). b.partition.workers) c.blocks-2.view_is in
+    let workers : blocks.partition.workers ≡ c.args.blocks.now.partition.workers = ap
+    (λ (b : BlocksSeen). b.partition.workers) c.blocks-2.view_is in
     let in_range = c.requires.block in
     let words = rule.words in
     let few = rule.few_workers in (
       dealt.table,
       omega arith,
-      draw_allowed _ hand.seat.id hand.seat.me c.args.from blocks.table.shared.key blocks.partition rule.key_is (sym dealt.partition)
-          (flag_down hand.number hand.met hand.seat.me.0 c.self.invariant c.args.from (omega arith) c.if-self-from.false)
+      draw_allowed _ hand.seat.id hand.seat.me c.args.from blocks.table.shared.key blocks.partition rule.key_is
+          (sym dealt.partition)
+          (flag_down hand.number hand.met hand.seat.me.0 c.self.invariant c.args.from (omega arith)
+          c.if-self-from.false)
           (omega arith) few rule.small_count,
     )
 
@@ -33,9 +36,11 @@ overflow_add-result c =
     let size = c.block_size.ensures in
     let place = c.from.ensures in
     let inside = c.if-place-from.true in
-    let workers : c.blocks-2.inside.partition.workers ≡ c.args.blocks.now.partition.workers = ap (λ (b : BlocksSeen). b.partition.workers) c.blocks-2.view_is in
+    let workers : c.blocks-2.inside.partition.workers ≡ c.args.blocks.now.partition.workers = ap
+    (λ (b : BlocksSeen). b.partition.workers) c.blocks-2.view_is in
     let in_range = c.requires.block in
-    let below = place_below c.blocks-2.inside.partition c.args.from c.fetch_add-place.result (omega arith) (omega arith) in
+    let below = place_below c.blocks-2.inside.partition c.args.from c.fetch_add-place.result (omega arith)
+    (omega arith) in
     omega arith
 
 pub returns-then-place-from-clause-draw : goal.returns-then-place-from-clause-draw
@@ -48,9 +53,11 @@ returns-then-place-from-clause-draw c =
     let place = c.from.ensures in
     let found = c.if-place-from.true in
     let dealt = dealt_inside _ _ _ _ c.blocks-2.view_is c.self.view_is c.requires.dealt in
-    let workers : p.workers ≡ c.args.blocks.now.partition.workers = ap (λ (b : BlocksSeen). b.partition.workers) c.blocks-2.view_is in
+    let workers : p.workers ≡ c.args.blocks.now.partition.workers = ap (λ (b : BlocksSeen). b.partition.workers)
+    c.blocks-2.view_is in
     let in_range = c.requires.block in
-    subst (λ (v : View). GivesLeaf v c.args.from (c.block_begin.result + c.fetch_add-place.result) c.fetch_add-place.new.seat.me.0) (ap (λ (h : HandSeen). h.view) c.self.view_is)
+    subst (λ (v : View). GivesLeaf v c.args.from (c.block_begin.result + c.fetch_add-place.result)
+    c.fetch_add-place.new.seat.me.0) (ap (λ (h : HandSeen). h.view) c.self.view_is)
     (gives_leaf p hand.seat.me.0 _ c.args.from c.fetch_add-place.result (sym dealt.partition)
     (flag_down hand.number hand.met hand.seat.me.0 c.self.invariant c.args.from (omega arith) c.if-self-from.false)
     (omega arith) c.fetch_add-place.ensures.2 _
@@ -66,9 +73,11 @@ returns-clause-draw c =
     let place = c.from.ensures in
     let past = c.if-place-from.false in
     let dealt = dealt_inside _ _ _ _ c.blocks-2.view_is c.self.view_is c.requires.dealt in
-    let workers : p.workers ≡ c.args.blocks.now.partition.workers = ap (λ (b : BlocksSeen). b.partition.workers) c.blocks-2.view_is in
+    let workers : p.workers ≡ c.args.blocks.now.partition.workers = ap (λ (b : BlocksSeen). b.partition.workers)
+    c.blocks-2.view_is in
     let in_range = c.requires.block in
-    inr (subst (λ (v : View). FindsNone v c.args.from c.fetch_add-place.new.seat.me.0) (ap (λ (h : HandSeen). h.view) c.self.view_is)
+    inr (subst (λ (v : View). FindsNone v c.args.from c.fetch_add-place.new.seat.me.0)
+    (ap (λ (h : HandSeen). h.view) c.self.view_is)
     (gives_none p hand.seat.me.0 _ c.args.from c.fetch_add-place.result (sym dealt.partition)
     (flag_down hand.number hand.met hand.seat.me.0 c.self.invariant c.args.from (omega arith) c.if-self-from.false)
     (omega arith) c.fetch_add-place.ensures.2 (omega arith)))
