@@ -1,6 +1,6 @@
 use Rattle.std.proofs.Common.{All, subst, sym, arith}
-use Rattle.algebra_tests.proofs.LaneRows.{IsSmall, small_row-reach}
-use Rattle.algebra_tests.proofs.lanes.convolved.Goals as goal
+use Rattle.key_tests.proofs.LaneRows.{IsSmall, small_row-reach}
+use Rattle.key_tests.proofs.lanes.convolved.Goals as goal
 
 pub convolve-requires-clause-reaches_add_up : goal.convolve-requires-clause-reaches_add_up
 convolve-requires-clause-reaches_add_up g c j k =

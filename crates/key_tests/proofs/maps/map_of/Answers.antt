@@ -5,7 +5,7 @@ use Rattle.std.proofs.lemmas.Int.{ints}
 use Rattle.semiring_kit.specs.MaxPlus.{max_plus}
 use Rattle.key_map.specs.declared.slot.Slot.{Slot}
 use Rattle.key_map.specs.Slots.{FitsSlots, value_in}
-use Rattle.algebra_tests.proofs.maps.map_of.Goals as goal
+use Rattle.key_tests.proofs.maps.map_of.Goals as goal
 
 abbrev two : ℤ → ℤ → List (Slot (Option ℤ))
 two x y = record { key = 1; elem = Some x } ∷ record { key = 2; elem = Some y } ∷ []

@@ -7,7 +7,7 @@ use Rattle.semiring_kit.specs.Semiring.{SemiringOn, IsSemiring, IsGood}
 use Rattle.shape_gen.specs.declared.mark.Mark.{Mark}
 use Rattle.fuse_core.specs.declared.letter.Letter.{Letter}
 use Rattle.fuse_core.specs.Letters.{elem_at, greatest_below, row_reach, rows_reach}
-use Rattle.algebra_tests.proofs.plans.letters_of.Goals as goal
+use Rattle.key_tests.proofs.plans.letters_of.Goals as goal
 
 more : {E X : Type 0} (is_element : E → Type 0) (f : X → E) (old new : List X) (x : X) → new ≡ old ++ x ∷ []
     → AllElements is_element f old → is_element (f x) → AllElements is_element f new

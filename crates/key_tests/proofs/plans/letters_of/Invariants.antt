@@ -1,7 +1,7 @@
 use Rattle.std.proofs.Common.{◌≡◌, ◌<◌, ◌≤◌, length}
 use Rattle.monoid_kit.specs.Items.{AllElements}
 use Rattle.semiring_kit.specs.Semiring.{IsGood}
-use Rattle.algebra_tests.proofs.plans.letters_of.Given as goal
+use Rattle.key_tests.proofs.plans.letters_of.Given as goal
 
 abbrev pub invariant-loop-value : goal.invariant-loop-value
 invariant-loop-value g l = record {

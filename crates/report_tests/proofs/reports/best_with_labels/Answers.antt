@@ -4,7 +4,7 @@ use Rattle.std.specs.List.{All}
 use Rattle.std.proofs.lemmas.List.Elements.{All-nil, All-push}
 use Rattle.shape_gen.specs.declared.mark.Mark.{Mark}
 use Rattle.best_k.specs.declared.entry.Entry.{Entry}
-use Rattle.text_tests.proofs.reports.best_with_labels.Goals as goal
+use Rattle.report_tests.proofs.reports.best_with_labels.Goals as goal
 
 pub report-requires : goal.report-requires
 report-requires g c =

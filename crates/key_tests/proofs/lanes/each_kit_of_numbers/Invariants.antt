@@ -1,4 +1,4 @@
-use Rattle.algebra_tests.proofs.lanes.each_kit_of_numbers.Given as goal
+use Rattle.key_tests.proofs.lanes.each_kit_of_numbers.Given as goal
 
 abbrev pub ghosts-doubled : goal.ghosts-doubled
 ghosts-doubled g a = record { name = a.blank.name; parts = a.blank.parts }
