@@ -55,40 +55,32 @@ same_key_swap s x t y =
     ]
 
 module _ {V : Type 0} where
-  -- a name that is there hides one more declaration of it
-  pub kept_at : (f : ℕ → List ℕ → Option V) (t : ℕ) (y : List ℕ) (v : V) → is_some (f t y) ≡ true
-      → (s : ℕ) (x : List ℕ) → f s x ≡ option_or (f s x) (cond (same_key s x t y) (Some v) None)
-  kept_at f t y v there s x =
+  -- a name that is there keeps its declaration
+  pub kept_at : (f : ℕ → List ℕ → Option V) (t : ℕ) (y : List ℕ) (v w : V) → f t y ≡ Some w
+      → (s : ℕ) (x : List ℕ) → cond (same_key t y s x) (Some w) (cond (same_key t y s x) (Some v) (f s x))
+      ≡ option_or (f s x) (cond (same_key s x t y) (Some v) None)
+  kept_at f t y v w there s x =
+      rw (same_key_swap t y s x) (
       elim (key_cases s x t y) [
-        | inl h ↦ (let k : is_some (f s x) ≡ true = rw (h.1, h.2) there in
-            rw h.0 (kept (f s x) v k))
+        | inl h ↦ (let k : f s x ≡ Some w = rw (h.1, h.2) there in rw (h.0, k) refl)
         | inr h ↦ rw h (bare (f s x))
-      ]
+      ])
     where
-      kept : (o : Option V) (v : V) → is_some o ≡ true → o ≡ option_or o (Some v)
-      kept None v k = absurd (false≢true k)
-      kept (Some w) v k = refl
-
       bare : (o : Option V) → o ≡ option_or o None
       bare None = refl
       bare (Some w) = refl
 
   -- a name that is not there gets its declaration
-  pub put_at : (f : ℕ → List ℕ → Option V) (t : ℕ) (y : List ℕ) (v : V) → is_some (f t y) ≡ false
+  pub put_at : (f : ℕ → List ℕ → Option V) (t : ℕ) (y : List ℕ) (v : V) → f t y ≡ None
       → (s : ℕ) (x : List ℕ) → cond (same_key t y s x) (Some v) (f s x)
       ≡ option_or (f s x) (cond (same_key s x t y) (Some v) None)
   put_at f t y v absent s x =
       rw (same_key_swap t y s x) (
       elim (key_cases s x t y) [
-        | inl h ↦ (let k : is_some (f s x) ≡ false = rw (h.1, h.2) absent in
-            rw h.0 (new (f s x) v k))
+        | inl h ↦ (let k : f s x ≡ None = rw (h.1, h.2) absent in rw (h.0, k) refl)
         | inr h ↦ rw h (bare (f s x))
       ])
     where
-      new : (o : Option V) (v : V) → is_some o ≡ false → Some v ≡ option_or o (Some v)
-      new None v k = refl
-      new (Some w) v k = absurd (false≢true (sym k))
-
       bare : (o : Option V) → o ≡ option_or o None
       bare None = refl
       bare (Some w) = refl

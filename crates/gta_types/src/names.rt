@@ -61,10 +61,13 @@ impl<'a> Names<'a> {
             ≡ option_or (known_at self.old s x)
             (if nat_eq s scope && bytes_eq x name.now then Some found else None)) }
     {
-        if self.first.contains_key(&(scope, name)) {
-            return Ok(true);
+        // One search for a new name. A name that is there gets back what it had.
+        match self.first.insert((scope, name), found)? {
+            None => Ok(false),
+            Some(earlier) => {
+                self.first.insert((scope, name), earlier)?;
+                Ok(true)
+            }
         }
-        self.first.insert((scope, name), found)?;
-        Ok(false)
     }
 }
