@@ -1,5 +1,6 @@
 -- Tables break no law exactly where they give a semiring.
-use Rattle.std.proofs.Common.{◌≡◌, ℕ, zero, suc, ◌+◌, ◌*◌, ◌<◌, ltb, not, Bool, true, false, cond, List, Some, None, refl, sym, subst, ap, ◌∙◌, arith}
+use Rattle.std.proofs.Common.{◌≡◌, ℕ, zero, suc, ◌+◌, ◌*◌, ◌<◌, ltb, not, Bool, true, false, cond, List}
+use Rattle.std.proofs.Common.{Some, None, refl, sym, subst, ap, ◌∙◌, arith}
 use Rattle.std.specs.Prelude.{option_map}
 use Rattle.std.specs.List.{find, range_with_len}
 use Rattle.std.proofs.lemmas.Bool.{not-false, not_from_true, eqb-true, eq-eqb}
@@ -82,7 +83,8 @@ module _ (t : PlainRaw) (table : IsRaw t) where
       → (sides t law a b c).0 ≡ (sides t law a b c).1
   equal none law a b c law_in a_in b_in c_in =
       eqb-true _ _ (not-false _
-      (find-places_none t law (find-flat_map_range_none (is_broken t) (places t) LAWS none law law_in) a b c a_in b_in c_in))
+      (find-places_none t law (find-flat_map_range_none (is_broken t) (places t) LAWS none law law_in)
+      a b c a_in b_in c_in))
 
   pub first_break-IsSemiring : first_break t ≡ None → IsSemiring (semiring_of t)
   first_break-IsSemiring none = record {

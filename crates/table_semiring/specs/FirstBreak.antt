@@ -8,28 +8,28 @@ use Rattle.table_semiring.specs.declared.checks.SemiringFault.TheVariants.{Broke
 use Rattle.table_semiring.specs.declared.laws.TheConstants.{LAWS}
 use Rattle.table_semiring.specs.Table.{PlainRaw, sum_in, product_in}
 
--- both sides of the law with this number
+-- both sides of the law with this number, from 0
 abbrev pub sides : PlainRaw → ℕ → ℕ → ℕ → ℕ → ℕ × ℕ
 sides t law a b c =
-    -- a + 0 = a
+    -- plus zero: a + 0 = a
     if law == 0 then (sum_in t a t.zero, a)
-    -- a + b = b + a
+    -- plus swaps: a + b = b + a
     else (if law == 1 then (sum_in t a b, sum_in t b a)
-    -- (a + b) + c = a + (b + c)
+    -- plus groups: (a + b) + c = a + (b + c)
     else (if law == 2 then (sum_in t (sum_in t a b) c, sum_in t a (sum_in t b c))
-    -- 1 a = a
+    -- mult one left: 1 a = a
     else (if law == 3 then (product_in t t.one a, a)
-    -- a 1 = a
+    -- mult one right: a 1 = a
     else (if law == 4 then (product_in t a t.one, a)
-    -- (a b) c = a (b c)
+    -- mult groups: (a b) c = a (b c)
     else (if law == 5 then (product_in t (product_in t a b) c, product_in t a (product_in t b c))
-    -- a (b + c) = a b + a c
+    -- left spread: a (b + c) = a b + a c
     else (if law == 6 then (product_in t a (sum_in t b c), sum_in t (product_in t a b) (product_in t a c))
-    -- (a + b) c = a c + b c
+    -- right spread: (a + b) c = a c + b c
     else (if law == 7 then (product_in t (sum_in t a b) c, sum_in t (product_in t a c) (product_in t b c))
-    -- 0 a = 0
+    -- zero left: 0 a = 0
     else (if law == 8 then (product_in t t.zero a, t.zero)
-    -- a 0 = 0
+    -- zero right: a 0 = 0
     else (product_in t a t.zero, t.zero)))))))))
 
 abbrev pub law_holds : PlainRaw → ℕ → ℕ → ℕ → ℕ → Bool

@@ -22,8 +22,8 @@ pub enum SemiringFault {
 }
 
 /// Where a law breaks: its number and its elements.
-#[derive(Clone, Copy)]
-pub(crate) struct Break {
+#[derive(Clone, Copy, PartialEq, Eq, Debug)]
+pub struct Break {
     pub law: u32,
     pub a: u32,
     pub b: u32,
@@ -51,6 +51,7 @@ pub fn check_semiring(alloc: Global, raw: &RawSemiring) -> Result<TableSemiring,
     }
 }
 
+/// The first place, by the law and then by its elements, where a law breaks.
 fn first_break(raw: &RawSemiring) -> Option<Break>
     requires table { IsRaw (plain_raw raw.now) }
     ensures { result ≡ first_break (plain_raw raw.now) }

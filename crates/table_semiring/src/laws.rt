@@ -11,7 +11,7 @@ use crate::table::{RawSemiring, cell};
 /// How many laws there are. Their numbers count from 0.
 pub const LAWS: u32 = 10;
 
-/// Whether the law holds at three elements.
+/// Whether the law holds at three elements, of which it may have fewer.
 pub(crate) fn holds(raw: &RawSemiring, law: u32, a: u32, b: u32, c: u32) -> bool
     requires table { IsRaw (plain_raw raw.now) }
     requires law { law < LAWS }
@@ -39,6 +39,7 @@ pub(crate) fn choices(raw: &RawSemiring, law: u32, place: u32) -> u32
     if place < arity { raw.size } else { 1 }
 }
 
+/// Both sides of the law.
 fn sides(raw: &RawSemiring, law: u32, a: u32, b: u32, c: u32) -> (u32, u32)
     requires table { IsRaw (plain_raw raw.now) }
     requires law { law < LAWS }

@@ -7,8 +7,10 @@ mod checks;
 mod laws;
 mod limits;
 mod table;
+#[cfg(test)]
+mod tests;
 
-pub use checks::{SemiringFault, check_semiring};
+pub use checks::{Break, SemiringFault, check_semiring};
 pub use laws::LAWS;
 pub use limits::semiring_limits;
 pub use table::{GREATEST_SIZE, RawSemiring, TableSemiring};

@@ -134,13 +134,13 @@ impl Semiring for TableSemiring {
     ghost mark_reach = { λ kit mark weight. Prim.omega arith };
 
     fn zero(&self, _alloc: Global) -> Result<u32, AllocError>
-        ensures { result ≡ Ok self.now.zero }
+        ensures { result ≡ Ok (plain_table self.now).zero }
     {
         Ok(self.zero)
     }
 
     fn one(&self, _alloc: Global) -> Result<u32, AllocError>
-        ensures { result ≡ Ok self.now.one }
+        ensures { result ≡ Ok (plain_table self.now).one }
     {
         Ok(self.one)
     }
@@ -162,8 +162,8 @@ impl Semiring for TableSemiring {
     }
 
     fn add(&self, _alloc: Global, a: &u32, b: &u32) -> Result<u32, AllocError>
-        requires left_is_element { a.now < self.now.size }
-        requires right_is_element { b.now < self.now.size }
+        requires left_is_element { a.now < (plain_table self.now).size }
+        requires right_is_element { b.now < (plain_table self.now).size }
         ensures { result ≡ Ok (sum_in (plain_table self.now) a.now b.now) }
     {
         Ok(self.plus.at(self.size, *a, *b))
@@ -176,8 +176,8 @@ impl Semiring for TableSemiring {
         b: &u32,
         steps: &mut Steps<L>,
     ) -> Result<u32, AllocError>
-        requires left_is_element { a.now < self.now.size }
-        requires right_is_element { b.now < self.now.size }
+        requires left_is_element { a.now < (plain_table self.now).size }
+        requires right_is_element { b.now < (plain_table self.now).size }
         ensures value { result ≡ Ok (product_in (plain_table self.now) a.now b.now) }
         ensures one_step { steps.new ≡ steps.old + 1 }
     {
