@@ -25,8 +25,8 @@ pub(crate) struct Place<'a> {
     pub(crate) name: &'a Name,
 }
 
-/// The first declarations, in the order of scopes and names, so that a look-up takes few steps however names are chosen.
-/// The elements of a table have a scope of their own.
+/// The first declarations, in the order of scopes and names, so that a look-up takes few steps however names
+/// are chosen. The elements of a table have a scope of their own.
 #[derive(Drop)]
 pub(crate) struct Names<'a> {
     pub(crate) first: BTreeMap<(u64, &'a [u8]), Found>,

@@ -23,7 +23,8 @@ returns-then-is_some-2 c =
     sym (c.look-of.ensures ∙ ap (known_at c.args.names.now 0) c.bytes.ensures) in
     unknown_back c.args.names.now front (picks ++ back) c.unknown-found.result _ c.unknown-found.ensures
     c.if-is_some.ensures
-    (unknown_front c.args.names.now picks back c.in_picks-found_pick.result (c.in_picks-found_pick.ensures c.args.table.now same)
+    (unknown_front c.args.names.now picks back c.in_picks-found_pick.result
+    (c.in_picks-found_pick.ensures c.args.table.now same)
     c.if-is_some-2.ensures)
 
 pub returns : goal.returns
@@ -35,6 +36,7 @@ returns c =
     sym (c.look-of.ensures ∙ ap (known_at c.args.names.now 0) c.bytes.ensures) in
     unknown_back c.args.names.now front (picks ++ back) c.unknown-found.result _ c.unknown-found.ensures
     c.if-is_some.ensures
-    (unknown_back c.args.names.now picks back c.in_picks-found_pick.result _ (c.in_picks-found_pick.ensures c.args.table.now same)
+    (unknown_back c.args.names.now picks back c.in_picks-found_pick.result _
+    (c.in_picks-found_pick.ensures c.args.table.now same)
     c.if-is_some-2.ensures
     (c.in_elements.ensures c.args.table.now same))
