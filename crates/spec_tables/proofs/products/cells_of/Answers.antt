@@ -14,8 +14,8 @@ returns-in-None c =
     let is : c.element-item.result ≡ get_or table.elements c.loop-number.number c.element-item.result =
     rw same at c.element-item.is in
     let known = row_on-lines_of (map (λ line. times_tree line.now) c.as_slice.result.now) parts table
-        c.element-item.result
-        (ap (map (λ line. times_tree line.now)) c.as_slice.ensures.value ∙ c.in_ok-lines.ensures) in
+    c.element-item.result
+    (ap (map (λ line. times_tree line.now)) c.as_slice.ensures.value ∙ c.in_ok-lines.ensures) in
     let none : row_of parts table c.element-item.result ≡ None =
     sym known ∙ rw c.in-None.is at (sym c.in_ok-row.ensures) in (
       below,
@@ -32,8 +32,8 @@ loop-number-preserved c =
     let is : c.element-item.result ≡ get_or table.elements c.loop-number.number c.element-item.result =
     rw same at c.element-item.is in
     let known = row_on-lines_of (map (λ line. times_tree line.now) c.as_slice.result.now) parts table
-        c.element-item.result
-        (ap (map (λ line. times_tree line.now)) c.as_slice.ensures.value ∙ c.in_ok-lines.ensures) in
+    c.element-item.result
+    (ap (map (λ line. times_tree line.now)) c.as_slice.ensures.value ∙ c.in_ok-lines.ensures) in
     let there : row_of parts table c.element-item.result ≡ Some c.in-Some.row.items =
     sym known ∙ rw c.in-Some.is at (sym c.in_ok-row.ensures) in
     record {

@@ -19,7 +19,7 @@ returns-then-is_some c =
     rw (c.bytes.ensures, c.bytes-in-loop-line.ensures) at c.if-eq.ensures in
     let here : products_by element (times_tree line.now) ≡ line.now.products.items ∷ [] = rw (sym same) refl in
     let split = products_for-split (λ line. times_tree line.now) element c.args.lines.now i line
-        c.loop-line-test.true c.line-item.is in
+    c.loop-line-test.true c.line-item.is in
     sym (ap only_one (split ∙ ap (λ ps. front ++ (ps ++ back)) here)
     ∙ only_one-second front back (option_map (λ row. row.now) c.loop-line.found) line.now.products.items
     (some_mapped (λ row. row.now) c.loop-line.found (sym c.if-is_some.ensures)) c.loop-line.invariant)
