@@ -47,6 +47,13 @@ impl CallCounter {
         self.chunk
     }
 
+    /// How many calls failed.
+    pub fn faults(&self) -> u64
+        ensures { result ≡ self.now.faults }
+    {
+        self.faults
+    }
+
     /// Counts a call, which fails where it is listed.
     pub fn begin(&mut self) -> Result<(), Failed>
         ensures counted { OnOk result (self.new ≡ after_call self.old) }

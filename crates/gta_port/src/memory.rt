@@ -38,6 +38,13 @@ impl MemorySource {
             calls: CallCounter::new(chunk, fails),
         }
     }
+
+    /// How many calls failed.
+    pub fn faults(&self) -> u64
+        ensures { result ≡ self.now.calls.faults }
+    {
+        self.calls.faults()
+    }
 }
 
 impl Source for MemorySource {
@@ -105,6 +112,13 @@ impl MemorySink {
         ensures { result.now ≡ self.now.gone }
     {
         self.taken.as_slice()
+    }
+
+    /// How many calls failed.
+    pub fn faults(&self) -> u64
+        ensures { result ≡ self.now.calls.faults }
+    {
+        self.calls.faults()
     }
 }
 
