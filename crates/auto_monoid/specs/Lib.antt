@@ -1,0 +1,6 @@
+pub mod Auto
+pub mod AutoOf
+pub mod Functions
+pub mod Numbering
+pub mod MonoidOf
+pub mod TransitionOf
