@@ -66,3 +66,18 @@ pub levels_greatest : (rows h : ℕ) → 2 ^ h ≤ 2 * rows → h ≤ levels row
 levels_greatest rows zero below = omega arith
 levels_greatest rows (suc h) below =
     greatest_to rows rows (suc h) (omega (arith, pow-suc 2 h, below_power h)) below
+
+within_step : (test : Bool) (m rows : ℕ) → (test ≡ true → 2 ^ suc m ≤ 2 * rows) → 2 ^ levels_to m rows ≤ 2 * rows
+    → 2 ^ (if test then suc m else levels_to m rows) ≤ 2 * rows
+within_step true m rows here rest = here refl
+within_step false m rows here rest = rest
+
+pub levels_to_within : (most rows : ℕ) → 1 ≤ rows → 2 ^ levels_to most rows ≤ 2 * rows
+levels_to_within zero rows some = omega arith
+levels_to_within (suc m) rows some =
+    within_step (nat_le (2 ^ suc m) (2 * rows)) m rows (λ test. grind (arith, nat_tests))
+    (levels_to_within m rows some)
+
+-- the law of levels, with levels_greatest
+pub levels_within : (rows : ℕ) → 1 ≤ rows → 2 ^ levels rows ≤ 2 * rows
+levels_within rows some = levels_to_within rows rows some

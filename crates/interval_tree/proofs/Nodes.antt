@@ -1,6 +1,5 @@
 -- What follows from what a node holds.
-use Rattle.std.proofs.Common.{◌≡◌, ℕ, ◌+◌, ◌-◌, ◌*◌, ◌<◌, ◌≤◌, ◌^◌, max, inl, inr, arith, sym, subst}
-use Rattle.interval_kit.specs.Editable.{IsOutside}
+use Rattle.std.proofs.Common.{ℕ, ◌<◌, ◌≤◌, inl, inr, arith}
 use Rattle.interval_tree.specs.declared.node.Node.{Node}
 use Rattle.interval_tree.specs.declared.node.Node.TheVariants.{NoRows, Row, Rows'}
 use Rattle.interval_tree.specs.Node.{Holds}
@@ -12,9 +11,15 @@ module _ {V : Type 0} where
       → (l h : ℕ) (node : Node V) → lo ≤ l → h ≤ hi → Holds stands l h node → Holds others l h node
   Holds-map stands others lo hi along l h NoRows from to holds = holds
   Holds-map stands others lo hi along l h (Row w) from to (a, b) = (a, along l h w from to b)
-  Holds-map stands others lo hi along l h (Rows' p left mid w q right) from to (a, b, c, d, e, f, g) =
-      (a, b, c, d, Holds-map stands others lo hi along l mid left from (omega arith) e,
-          Holds-map stands others lo hi along mid h right (omega arith) to f, along l h w from to g)
+  Holds-map stands others lo hi along l h (Rows' p left mid w q right) from to (a, b, c, d, e, f, g) = (
+    a,
+    b,
+    c,
+    d,
+    Holds-map stands others lo hi along l mid left from (omega arith) e,
+    Holds-map stands others lo hi along mid h right (omega arith) to f,
+    along l h w from to g,
+  )
 
   pub holds_above : (stands : ℕ → ℕ → V → Type 0) (row lo hi : ℕ) (node : Node V) → row < lo
       → Holds (standing_without stands row) lo hi node → Holds stands lo hi node

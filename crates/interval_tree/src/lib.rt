@@ -3,6 +3,7 @@
 #![tactic(auto)]
 
 mod build;
+mod edits;
 mod node;
 mod replace;
 mod tree;

@@ -1,8 +1,10 @@
 //! A plan and the values of its rows, which stay those of the plan as its rows are edited.
 
-ghost use Rattle.std.specs.Prelude.{◌≡◌, ◌↔◌, IfOk, IfSome, Some};
+ghost use Rattle.std.specs.Prelude.{◌≡◌, ◌+◌, ◌*◌, ◌<◌, ◌≤◌, ◌↔◌, IfOk, IfSome, OnErr, OnOk, Some};
+ghost use Rattle.interval_tree.specs.Levels.{levels};
 
 use crate::build::node_of;
+use crate::edits::set_row;
 use crate::node::Node;
 use interval_kit::Editable;
 use std::alloc::{AllocError, Global};
@@ -25,8 +27,8 @@ impl<F: Editable> Model for Tree<F> {
     ghost Value = { TreeOf F F.Value };
 
     ghost view = { λ t. record {
-        plan = t.plan;
-        top = top_value t.root;
+      plan = t.plan;
+      top = top_value t.root;
     } };
 
     ghost invariant = { λ t. Holds (F.stands t.plan) 0 (F.rows t.plan) t.root };
@@ -61,5 +63,23 @@ impl<F: Editable> Tree<F> {
         ensures value { IfSome result (λ value. self.now.top ≡ Some value.now) }
     {
         self.root.value()
+    }
+
+    /// Replaces a row. It takes memory for the new values, and without it the tree is as before.
+    pub fn set<L: Ledger>(
+        &mut self,
+        alloc: Global,
+        row: u32,
+        new: F::Row,
+        steps: &mut Steps<L>,
+    ) -> Result<(), AllocError>
+        requires in_range { row < F.rows self.old.plan }
+        requires may_set { F.may_set self.old.plan row new }
+        ensures plan { OnOk result (self.new.plan ≡ F.after_set self.old.plan row new) }
+        ensures unchanged { OnErr result (self.new ≡ self.old) }
+        ensures cost { steps.new ≤ steps.old + F.leaf_bound self.old.plan 1
+            + F.join_bound self.old.plan * (2 * levels (F.rows self.old.plan)) }
+    {
+        set_row(alloc, &mut self.plan, &mut self.root, row, new, steps)
     }
 }
