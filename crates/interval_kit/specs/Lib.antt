@@ -1,3 +1,2 @@
--- What a cut of rows is, and the cut by a leaf size; what edits of a plan leave as it was.
+-- What a cut of rows is, and the cut by a leaf size.
 pub mod Cut
-pub mod Editable

@@ -1,7 +1,7 @@
 -- What an edit of the plan leaves of a tree, and how many joins it takes.
 use Rattle.std.proofs.Common.{◌≡◌, ℕ, ◌+◌, ◌*◌, ◌<◌, ◌≤◌, arith, ap, sym, subst, ◌∙◌}
 use Rattle.std.proofs.lemmas.Nat.{mul-le}
-use Rattle.interval_kit.specs.Editable.{LeavesTheRest, IsEditable}
+use Rattle.interval_tree.specs.Editable.{LeavesTheRest, IsEditable}
 use Rattle.interval_tree.specs.declared.node.Node.{Node}
 use Rattle.interval_tree.specs.Node.{Holds, height}
 use Rattle.interval_tree.specs.Levels.{levels}

@@ -3,3 +3,4 @@ pub mod Node
 pub mod Levels
 pub mod Path
 pub mod Tree
+pub mod Editable

@@ -1,6 +1,6 @@
 -- The values anew of the intervals with one row.
 use Rattle.std.specs.Prelude.{ℕ, ◌<◌, ◌≤◌}
-use Rattle.interval_kit.specs.Editable.{IsOutside}
+use Rattle.interval_tree.specs.Editable.{IsOutside}
 use Rattle.interval_tree.specs.declared.node.Node.{Node}
 use Rattle.interval_tree.specs.declared.node.Node.TheVariants.{NoRows, Row, Rows'}
 use Rattle.interval_tree.specs.declared.replace.Path.{Path}

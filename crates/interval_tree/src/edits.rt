@@ -4,9 +4,9 @@ ghost use Rattle.std.specs.Prelude.{◌≡◌, ◌+◌, ◌*◌, ◌<◌, ◌≤
 ghost use Rattle.interval_tree.specs.Levels.{levels};
 ghost use Rattle.interval_tree.specs.Node.{Holds};
 
+use crate::editable::Editable;
 use crate::node::Node;
 use crate::replace::{path_of, put};
-use interval_kit::Editable;
 use std::alloc::{AllocError, Global};
 use std::sync::ledger::Ledger;
 use step_count::Steps;

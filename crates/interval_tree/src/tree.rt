@@ -4,9 +4,9 @@ ghost use Rattle.std.specs.Prelude.{◌≡◌, ◌+◌, ◌*◌, ◌<◌, ◌≤
 ghost use Rattle.interval_tree.specs.Levels.{levels};
 
 use crate::build::node_of;
+use crate::editable::Editable;
 use crate::edits::set_row;
 use crate::node::Node;
-use interval_kit::Editable;
 use std::alloc::{AllocError, Global};
 use std::marker::Model;
 use std::sync::ledger::Ledger;

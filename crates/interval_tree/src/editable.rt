@@ -3,9 +3,9 @@
 
 ghost use Rattle.std.specs.Prelude.{◌≡◌, ℕ, ◌+◌, ◌^◌, ◌<◌, ◌≤◌, ◌↔◌, IfErr, IsTrue, OnErr, OnOk};
 ghost use Rattle.std.specs.Prelude.{if◌then◌else◌};
-ghost use Rattle.interval_kit.specs.Editable.{IsEditable};
+ghost use Rattle.interval_tree.specs.Editable.{IsEditable};
 
-use crate::fused::Fused;
+use interval_kit::Fused;
 use std::alloc::Global;
 
 /// A plan whose rows are edited. What stood for an interval without the changed row stands for it still.
