@@ -1,0 +1,4 @@
+-- Lemmas on nodes and their heights.
+pub mod Nodes
+pub mod Heights
+pub mod Trees

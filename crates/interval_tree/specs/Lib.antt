@@ -1,0 +1,6 @@
+-- What a tree holds of the rows of its plan, and how many levels it has.
+pub mod Node
+pub mod Levels
+pub mod Path
+pub mod Tree
+pub mod Editable
