@@ -1,12 +1,14 @@
 //! The worked examples over the top call: what is printed and where, limits of the input, and faults at each call.
 //! tests/specs.rt has those of specifications, with `show`; tests/table.rt those of tables, tests/shapes.rt those of
 //! what is generated, tests/answers.rt and tests/folds.rt those of tests and aggregates, tests/best.rt those of the
-//! best candidates, and tests/commands.rt those of the other commands. tests/cuts.rt has inputs and lines that are cut.
+//! best candidates, and tests/commands.rt those of the other commands. tests/cuts.rt has inputs and lines that are cut,
+//! tests/faults.rt calls that fail in turn.
 
 mod answers;
 mod best;
 mod commands;
 mod cuts;
+mod faults;
 mod folds;
 mod shapes;
 mod specs;
@@ -57,12 +59,13 @@ const SMOOTH: Ports = Ports {
     err_fails: &[],
 };
 
-/// What a run left behind.
+/// What a run left behind, and how often the source, the output and the error output failed.
 #[derive(Drop)]
 struct Ended {
     status: u8,
     out: Vec<u8>,
     err: Vec<u8>,
+    faults: (u64, u64, u64),
 }
 
 fn words_of(alloc: Global, texts: &[&str]) -> Result<Vec<String>, Fail> {
@@ -96,6 +99,7 @@ fn called<R: Threads + Sync>(
         status,
         out: Vec::from_slice(alloc, out.bytes())?,
         err: Vec::from_slice(alloc, err.bytes())?,
+        faults: (source.faults(), out.faults(), err.faults()),
     })
 }
 
@@ -224,24 +228,6 @@ fn the_most_bytes(rt: HostRuntime) -> Result<(), Fail> {
         assert_eq!(rt; input.len(), count as usize);
         assert_eq!(rt; ended.out.as_slice(), out, "output at {count}");
         assert_eq!(rt; ended.err.as_slice(), err, "error output at {count}");
-    }
-    Ok(())
-}
-
-#[test]
-fn a_source_of_any_chunk(rt: HostRuntime) -> Result<(), Fail> {
-    let input = with_head(rt.alloc(), b"3\n-1\n4\n")?;
-    for source_chunk in 1..=40 {
-        let ports = Ports {
-            source_chunk,
-            ..SMOOTH
-        };
-        let ended = called(&rt, rt.alloc(), &["run"], input.as_slice(), ports)?;
-        assert_eq!(rt;
-            ended.out.as_slice(),
-            b"answer 7\n".as_slice(),
-            "at {source_chunk}"
-        );
     }
     Ok(())
 }
@@ -399,46 +385,6 @@ fn faults_at_each_call(rt: HostRuntime) -> Result<(), Fail> {
         assert_eq!(rt; ended.status, status, "status at {fails:?}");
         assert_eq!(rt; ended.out.as_slice(), out, "output at {fails:?}");
         assert_eq!(rt; ended.err.as_slice(), err, "error output at {fails:?}");
-    }
-    Ok(())
-}
-
-// A knapsack whose third read fails, and one whose second write does.
-#[test]
-fn faults_of_a_knapsack(rt: HostRuntime) -> Result<(), Fail> {
-    let input = b"gta 1\ncolumns weight value\ngenerate sublists\ntest sum weight <= 50\n\
-                  aggregate best 2 max value\nrows\nweight,value\n10,60\n20,100\n30,120\n";
-    let cases: [(Ports, u8, &[u8], &[u8]); 2] = [
-        (
-            Ports {
-                source_chunk: 16,
-                source_fails: &[3],
-                ..SMOOTH
-            },
-            3,
-            b"",
-            b"read fault\n",
-        ),
-        (
-            Ports {
-                out_chunk: 4,
-                out_fails: &[2],
-                ..SMOOTH
-            },
-            4,
-            b"answ",
-            b"write fault\n",
-        ),
-    ];
-    for (ports, status, out, err) in cases {
-        let ended = called(&rt, rt.alloc(), &["run"], input, ports)?;
-        assert_eq!(rt; ended.status, status, "status where {status} is due");
-        assert_eq!(rt; ended.out.as_slice(), out, "output at status {status}");
-        assert_eq!(rt;
-            ended.err.as_slice(),
-            err,
-            "error output at status {status}"
-        );
     }
     Ok(())
 }

@@ -1,15 +1,14 @@
 //! Inputs that end early, and lines of the error output that a fault cuts.
 
+use super::faults::{CALLS, KNAPSACK};
 use super::{Ports, SMOOTH, USAGE, called};
 use std::test::Fail;
 
 // Each front of a knapsack is answered or refused, and prints in one place.
 #[test]
 fn each_front_of_an_input(rt: HostRuntime) -> Result<(), Fail> {
-    let input: &[u8] = b"gta 1\ncolumns weight value\ngenerate sublists\ntest sum weight <= 50\n\
-                         aggregate best 2 max value\nrows\nweight,value\n10,60\n20,100\n30,120\n";
-    for len in 0..=input.len() {
-        let ended = called(&rt, rt.alloc(), &["run"], &input[..len], SMOOTH)?;
+    for len in 0..=KNAPSACK.len() {
+        let ended = called(&rt, rt.alloc(), &["run"], &KNAPSACK[..len], SMOOTH)?;
         let status = if ended.err.is_empty() { 0 } else { 1 };
         assert_eq!(rt; ended.status, status, "status of {len} bytes");
         assert!(rt;
@@ -19,10 +18,6 @@ fn each_front_of_an_input(rt: HostRuntime) -> Result<(), Fail> {
     }
     Ok(())
 }
-
-const CALLS: &[u64] = &[
-    1, 2, 3, 4, 5, 6, 7, 8, 9, 10, 11, 12, 13, 14, 15, 16, 17, 18, 19, 20,
-];
 
 // Words, an input, and the line and the status. Each call for four bytes of the line fails, and then none does.
 #[test]
@@ -47,9 +42,15 @@ fn a_line_cut_at_each_call(rt: HostRuntime) -> Result<(), Fail> {
             };
             let ended = called(&rt, rt.alloc(), texts, input, ports)?;
             let gone = (4 * k).min(line.len());
-            let status = if gone < line.len() { 4 } else { status };
+            let failed = gone < line.len();
+            let status = if failed { 4 } else { status };
             assert_eq!(rt; ended.status, status, "status at call {k} of {texts:?}");
             assert_eq!(rt; ended.out.len(), 0, "output at call {k} of {texts:?}");
+            assert_eq!(rt;
+                ended.faults,
+                (0, 0, u64::from(failed)),
+                "faults at call {k} of {texts:?}"
+            );
             assert_eq!(rt;
                 ended.err.as_slice(),
                 &line[..gone],
