@@ -1,7 +1,7 @@
 -- Lemmas on the table of products, over the numbering of an automaton's functions.
 use Rattle.std.proofs.Common.{◌≡◌, ℕ, zero, suc, ◌+◌, ◌*◌, ◌<◌, ◌≤◌, Bool, true, false, ◌||◌, List, [], ◌∷◌}
 use Rattle.std.proofs.Common.{◌++◌, length, get_or, take, map, inl, inr, refl, sym, ap, subst, ◌∙◌, All, None}
-use Rattle.std.proofs.Common.{Some, append_assoc, arith}
+use Rattle.std.proofs.Common.{Some, Ok, Err, append_assoc, arith}
 use Rattle.std.specs.List.{flat_map, IsDistinct, list_any}
 use Rattle.std.proofs.lemmas.Bool.{cases_lt, false≢true}
 use Rattle.std.proofs.lemmas.Cmp.{nat_list_eq_equiv}
@@ -16,9 +16,10 @@ use Rattle.std.proofs.lemmas.List.Sums.{passes_at_first}
 use Rattle.std.proofs.Math.Nat.{suc-mul}
 use Rattle.monoid_kit.specs.declared.checks.TableFault.{TableFault}
 use Rattle.monoid_kit.specs.declared.checks.TableFault.TheVariants.{UnitFails, NotAssociative, Memory}
-use Rattle.monoid_kit.specs.FirstBad.{IsEndOf}
+use Rattle.outcome_kit.specs.Outcome.{Carries, unless}
+use Rattle.monoid_kit.specs.FirstBad.{first_bad, fault_in, lawful_outcome}
 use Rattle.monoid_kit.specs.Monoid.{IsMonoid}
-use Rattle.monoid_kit.specs.Table.{IsTable, table_mul}
+use Rattle.monoid_kit.specs.Table.{PlainTable, IsTable, table_mul}
 use Rattle.auto_monoid.specs.Auto.{PlainAuto, IsAuto, IsWord, state_after_word}
 use Rattle.auto_monoid.specs.Functions.{IsFunction, identity, function_of, composition, same, number_of}
 use Rattle.auto_monoid.specs.Functions.{IsReached, AreFew}
@@ -31,16 +32,17 @@ use Rattle.auto_monoid.proofs.Found.{discovered-IsReached, discovered-IsDistinct
 use Rattle.auto_monoid.proofs.Found.{discovered-some, discovered-first, fold-IsThere}
 
 -- where no law is broken, only memory can be wanting
-pub no_fault : (fault : TableFault) → IsEndOf None fault → fault ≡ Memory
-no_fault Memory ends = refl
-no_fault (UnitFails element left) ends = absurd (none≢some (UnitFails element left) ends)
-  where
-    none≢some : (f : TableFault) → None ≡ Some f → ⊥
-    none≢some f is = cc
-no_fault (NotAssociative x y z) ends = absurd (none≢some (NotAssociative x y z) ends)
-  where
-    none≢some : (f : TableFault) → None ≡ Some f → ⊥
-    none≢some f is = cc
+pub no_fault : (t : PlainTable) (fault : TableFault) → first_bad t ≡ None → Carries (lawful_outcome t) (fault_in fault)
+    → fault ≡ Memory
+no_fault t Memory none ends = refl
+no_fault t (UnitFails element left) none ends =
+    absurd
+    (let h : Ok t ≡ Err (UnitFails element left) = subst
+    (λ first. unless first (Ok t) ≡ Err (UnitFails element left)) none ends in cc)
+no_fault t (NotAssociative x y z) none ends =
+    absurd
+    (let h : Ok t ≡ Err (NotAssociative x y z) = subst (λ first. unless first (Ok t) ≡ Err (NotAssociative x y z))
+    none ends in cc)
 
 -- the rows of the table
 module _ (fs : List (List ℕ)) where

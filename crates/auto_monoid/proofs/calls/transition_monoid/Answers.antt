@@ -1,5 +1,4 @@
 use Rattle.std.proofs.Common.{◌≡◌, All, sym, ap, subst, ◌∙◌}
-use Rattle.monoid_kit.specs.FirstBad.{IsEndOf}
 use Rattle.monoid_kit.specs.Monoid.{IsMonoid}
 use Rattle.monoid_kit.specs.Table.{PlainTable, IsTable, table_mul}
 use Rattle.monoid_kit.specs.TableOf.{plain_raw}
@@ -37,9 +36,7 @@ want_of_memory-requires c =
     let monoid =
     subst (λ (t : PlainTable). IsMonoid t.size t.unit (table_mul t)) (sym is)
     (product_table-IsMonoid a c.requires.auto fs c.in_ok-functions.ensures.numbered) in
-    no_fault c.in-Err.fault
-    (subst (λ first. IsEndOf first c.in-Err.fault) (c.in-Err.ensures.exact.1 monoid)
-    c.in-Err.ensures.refused)
+    no_fault (plain_raw c.in-Ok-table_of.table) c.in-Err.fault (c.in-Err.ensures.exact.1 monoid) c.in-Err.ensures.tells
 
 pub returns-in-Ok-check_table-clause-few : goal.returns-in-Ok-check_table-clause-few
 returns-in-Ok-check_table-clause-few c =
