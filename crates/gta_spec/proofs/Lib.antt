@@ -1,3 +1,5 @@
 pub mod Items
+pub mod Goods
+pub mod Said
 pub mod Fits
 pub mod WellRead

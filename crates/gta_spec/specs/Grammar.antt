@@ -1,6 +1,7 @@
 -- The grammar of a line.
 -- `IsX x ts rest` says that the symbols ts are an X that says x, and then rest.
-use Rattle.std.specs.Prelude.{◌≡◌, ℕ, Bool, true, false, List, [], ◌∷◌, ℤ, pos, neg_ℤ, Some, None, codes}
+use Rattle.std.specs.Prelude.{◌≡◌, ℕ, zero, suc, ◌+◌, ◌≤◌, Bool, true, false, List, [], ◌∷◌, ℤ, pos, neg_ℤ}
+use Rattle.std.specs.Prelude.{length as how_many, Some, None, codes}
 use Rattle.shape_gen.specs.declared.shape.Shape.{Shape}
 use Rattle.shape_gen.specs.declared.shape.Shape.TheVariants as shapes
 use Rattle.gta_text.specs.Names.{is_name_text}
@@ -13,13 +14,21 @@ use Rattle.gta_spec.specs.declared.parts.Cmp.TheVariants.{AtMost, AtLeast, Equal
 use Rattle.gta_spec.specs.declared.parts.Check.{Check}
 use Rattle.gta_spec.specs.declared.parts.Check.TheVariants.{Compare, Mod}
 use Rattle.gta_spec.specs.declared.parts.GoalPart.{GoalPart}
-use Rattle.gta_spec.specs.declared.parts.GoalPart.TheVariants.{Count, Any, Max, Min, Best}
+use Rattle.gta_spec.specs.declared.parts.GoalPart.TheVariants.{Count, Any, Max, Min, Best, Ranked}
+use Rattle.gta_spec.specs.declared.parts.RankPart.{RankPart}
+use Rattle.gta_spec.specs.declared.limits.TheConstants.{KEPT_NAME_LIMIT, NESTING_LIMIT, RANK_LIMIT}
 use Rattle.gta_spec.specs.Parts.{CaseTree, PickTree, TestTree, Sum, Length, Fold, KindTree, Columns, Labels, Measure}
-use Rattle.gta_spec.specs.Parts.{Table, Times, Generate, Test, Aggregate}
-use Rattle.gta_spec.specs.Symbols.{Symbol, Word, Digits, Text, Sign}
+use Rattle.gta_spec.specs.Parts.{Table, Times, Generate, Test, Named, Keep, Aggregate}
+use Rattle.gta_spec.specs.Keep as keeps
+use Rattle.gta_spec.specs.Keep.{KeepTree, all_of, any_of, one_if}
+use Rattle.gta_spec.specs.Symbols.{Symbol, Word, Later, Digits, Text, Sign, Stray}
 
 abbrev pub IsWord : List ℕ → List Symbol → List Symbol → Type 0
 IsWord w ts rest = ts ≡ Word w ∷ rest
+
+-- a word that the version reserves, and version 1 doesn't
+abbrev pub IsLater : List ℕ → List Symbol → List Symbol → Type 0
+IsLater w ts rest = ts ≡ Later w ∷ rest
 
 abbrev pub IsSign : List ℕ → List Symbol → List Symbol → Type 0
 IsSign s ts rest = ts ≡ Sign s ∷ rest
@@ -190,7 +199,23 @@ pub data IsEnd : Bool → List Symbol → List Symbol → Type 0 where
   greatest : {ts rest : List Symbol} → IsWord (codes "max") ts rest → IsEnd true ts rest
   least : {ts rest : List Symbol} → IsWord (codes "min") ts rest → IsEnd false ts rest
 
+-- ( "max" | "min" ) NAME
+pub data IsFirstRank : RankPart → List Symbol → List Symbol → Type 0 where
+  rank : {greatest : Bool} {x : List ℕ} {ts a rest : List Symbol} → IsEnd greatest ts a → IsName x a rest
+      → IsFirstRank (record { greatest = greatest; name = x }) ts rest
+
+-- "then" ( "max" | "min" ) NAME
+abbrev pub IsNextRank : RankPart → List Symbol → List Symbol → Type 0
+IsNextRank = Behind (IsLater (codes "then")) IsFirstRank
+
+-- ( "max" | "min" ) NAME rank [ rank ]
+pub record IsRanks (keys : List RankPart) (ts rest : List Symbol) : Type 0 where
+  pub ranks : Listed IsFirstRank IsNextRank keys ts rest
+  pub several : 2 ≤ how_many keys
+  pub few : how_many keys ≤ RANK_LIMIT
+
 -- "count" | "any" | "max" NAME | "min" NAME | "best" DIGITS ( "max" | "min" ) NAME
+-- | ranks | "best" DIGITS ranks
 pub data IsGoal : GoalPart → List Symbol → List Symbol → Type 0 where
   count : {ts rest : List Symbol} → IsWord (codes "count") ts rest → IsGoal Count ts rest
   any : {ts rest : List Symbol} → IsWord (codes "any") ts rest → IsGoal Any ts rest
@@ -201,31 +226,86 @@ pub data IsGoal : GoalPart → List Symbol → List Symbol → Type 0 where
   best : {k : ℕ} {greatest : Bool} {x : List ℕ} {ts a b c rest : List Symbol}
       → IsWord (codes "best") ts a → IsDigits k a b → IsEnd greatest b c → IsName x c rest
       → IsGoal (Best k greatest x) ts rest
+  ranked : {keys : List RankPart} {ts rest : List Symbol} → IsRanks keys ts rest
+      → IsGoal (Ranked None keys) ts rest
+  best_ranked : {k : ℕ} {keys : List RankPart} {ts a b rest : List Symbol} → IsWord (codes "best") ts a
+      → IsDigits k a b → IsRanks keys b rest
+      → IsGoal (Ranked (Some k) keys) ts rest
+
+-- how many of the symbols are names
+abbrev pub names_among : List Symbol → ℕ
+names_among [] = 0
+names_among (Word x ∷ ts) = one_if (is_name_text x) + names_among ts
+names_among (Later x ∷ ts) = names_among ts
+names_among (Digits n ∷ ts) = names_among ts
+names_among (Text x ∷ ts) = names_among ts
+names_among (Sign s ∷ ts) = names_among ts
+names_among (Stray ∷ ts) = names_among ts
+
+-- an expression over names
+abbrev pub Expr : Type 0
+Expr = KeepTree (List ℕ)
+
+-- lit { "and" lit }
+pub data IsConj (IsLit : Expr → List Symbol → List Symbol → Type 0) : Expr → List Symbol → List Symbol → Type 0 where
+  conj : {x : Expr} {xs : List Expr} {ts rest : List Symbol}
+      → Listed IsLit (Behind (IsWord (codes "and")) IsLit) (x ∷ xs) ts rest
+      → IsConj IsLit (all_of x xs) ts rest
+
+-- conj { "or" conj }
+pub data IsExpr (IsLit : Expr → List Symbol → List Symbol → Type 0) : Expr → List Symbol → List Symbol → Type 0 where
+  expr : {x : Expr} {xs : List Expr} {ts rest : List Symbol}
+      → Listed (IsConj IsLit) (Behind (IsLater (codes "or")) (IsConj IsLit)) (x ∷ xs) ts rest
+      → IsExpr IsLit (any_of x xs) ts rest
+
+-- "not" lit | NAME | "(" expr ")", where the literals within are these
+pub data IsLitOver (IsInner : Expr → List Symbol → List Symbol → Type 0) : Expr → List Symbol → List Symbol → Type 0 where
+  test : {x : List ℕ} {ts rest : List Symbol} → IsName x ts rest → IsLitOver IsInner (keeps.Test x) ts rest
+  not : {x : Expr} {ts a rest : List Symbol} → IsLater (codes "not") ts a → IsInner x a rest
+      → IsLitOver IsInner (keeps.Not x) ts rest
+  nested : {x : Expr} {ts a b rest : List Symbol} → IsSign (codes "(") ts a → IsExpr IsInner x a b
+      → IsSign (codes ")") b rest
+      → IsLitOver IsInner x ts rest
+
+-- a literal, in which at most so many `not` and pairs of parentheses enclose any place
+abbrev pub IsLit : ℕ → Expr → List Symbol → List Symbol → Type 0
+IsLit zero = IsLitOver (λ x ts rest. ⊥)
+IsLit (suc n) = IsLitOver (IsLit n)
+
+-- the expression of a line, with a bound on its names and on what encloses them
+pub record IsKeep (x : Expr) (ts rest : List Symbol) : Type 0 where
+  pub few : names_among ts ≤ KEPT_NAME_LIMIT
+  pub expression : IsExpr (IsLit NESTING_LIMIT) x ts rest
 
 -- a line: the word that begins it, and what that word asks for
-pub data IsLine : KindTree → List Symbol → List Symbol → Type 0 where
+pub data IsLine (version : ℕ) : KindTree → List Symbol → List Symbol → Type 0 where
   columns : {xs : List ColumnItem} {ts a rest : List Symbol} → IsWord (codes "columns") ts a
-      → Listed IsItem IsItem xs a rest → IsLine (Columns xs) ts rest
+      → Listed IsItem IsItem xs a rest → IsLine version (Columns xs) ts rest
   labels : {xs : List (List ℕ)} {ts a rest : List Symbol} → IsWord (codes "labels") ts a
-      → IsNames xs a rest → IsLine (Labels xs) ts rest
+      → IsNames xs a rest → IsLine version (Labels xs) ts rest
   measure : {x : List ℕ} {ks : List CaseTree} {ts a b c rest : List Symbol}
       → IsWord (codes "measure") ts a → IsName x a b → IsSign (codes "=") b c → IsCases ks c rest
-      → IsLine (Measure (record { name = x; cases = ks })) ts rest
+      → IsLine version (Measure (record { name = x; cases = ks })) ts rest
   table : {x u : List ℕ} {es : List (List ℕ)} {ts a b c d e rest : List Symbol}
       → IsWord (codes "table") ts a → IsName x a b → IsWord (codes "unit") b c → IsName u c d
       → IsWord (codes "elements") d e → IsNames es e rest
-      → IsLine (Table (record { name = x; unit = u; elements = es })) ts rest
+      → IsLine version (Table (record { name = x; unit = u; elements = es })) ts rest
   times : {x y : List ℕ} {ps : List (List ℕ)} {ts a b c d rest : List Symbol}
       → IsWord (codes "times") ts a → IsName x a b → IsName y b c → IsSign (codes "=") c d
       → IsNames ps d rest
-      → IsLine (Times (record { table = x; element = y; products = ps })) ts rest
+      → IsLine version (Times (record { table = x; element = y; products = ps })) ts rest
   generate : {s : Shape} {ts a rest : List Symbol} → IsWord (codes "generate") ts a
-      → IsShape s a rest → IsLine (Generate s) ts rest
+      → IsShape s a rest → IsLine version (Generate s) ts rest
   test : {t : TestTree} {ts a rest : List Symbol} → IsWord (codes "test") ts a → IsTest t a rest
-      → IsLine (Test t) ts rest
+      → IsLine version (Test t) ts rest
+  named : {x : List ℕ} {t : TestTree} {ts a b c rest : List Symbol} → 2 ≤ version
+      → IsWord (codes "test") ts a → IsName x a b → IsSign (codes "=") b c → IsTest t c rest
+      → IsLine version (Named x t) ts rest
+  keep : {x : Expr} {ts a rest : List Symbol} → IsLater (codes "keep") ts a → IsKeep x a rest
+      → IsLine version (Keep x) ts rest
   aggregate : {g : GoalPart} {ts a rest : List Symbol} → IsWord (codes "aggregate") ts a
-      → IsGoal g a rest → IsLine (Aggregate g) ts rest
+      → IsGoal g a rest → IsLine version (Aggregate g) ts rest
 
 -- the whole line
-abbrev pub IsPart : KindTree → List Symbol → Type 0
-IsPart part ts = IsLine part ts []
+abbrev pub IsPart : ℕ → KindTree → List Symbol → Type 0
+IsPart version part ts = IsLine version part ts []

@@ -5,6 +5,8 @@ use Rattle.gta_spec.specs.declared.parts.ColumnItem.{ColumnItem}
 use Rattle.gta_spec.specs.declared.parts.TermPart.{TermPart}
 use Rattle.gta_spec.specs.declared.parts.AtomPart.{AtomPart}
 use Rattle.gta_spec.specs.declared.parts.Check.{Check}
+use Rattle.gta_spec.specs.declared.parts.KeepPart.{KeepPart}
+use Rattle.gta_spec.specs.declared.parts.KeepPart.TheVariants as keeps
 use Rattle.gta_spec.specs.declared.parts.GoalPart.{GoalPart}
 use Rattle.gta_spec.specs.declared.parts.CasePart.{CasePart}
 use Rattle.gta_spec.specs.declared.parts.MeasurePart.{MeasurePart}
@@ -17,6 +19,8 @@ use Rattle.gta_spec.specs.declared.parts.PartKind.{PartKind}
 use Rattle.gta_spec.specs.declared.parts.PartKind.TheVariants as kinds
 use Rattle.gta_spec.specs.declared.parts.Part.{Part}
 use Rattle.gta_spec.specs.declared.parts.Spec.{Spec}
+use Rattle.gta_spec.specs.Keep as keep
+use Rattle.gta_spec.specs.Keep.{KeepTree}
 
 pub record CaseTree : Type 0 where
   pub form : List TermPart
@@ -53,6 +57,8 @@ pub data KindTree : Type 0 where
   Times : TimesTree → KindTree
   Generate : Shape → KindTree
   Test : TestTree → KindTree
+  Named : List ℕ → TestTree → KindTree
+  Keep : KeepTree (List ℕ) → KindTree
   Aggregate : GoalPart → KindTree
 
 -- what the line with this number says
@@ -84,6 +90,12 @@ test_tree (tests.Sum name check) = Sum name check
 test_tree (tests.Length check) = Length check
 test_tree (tests.Fold table picks accept) = Fold table (map pick_tree picks.items) accept.items
 
+abbrev pub keep_tree : KeepPart → KeepTree (List ℕ)
+keep_tree (keeps.Test name) = keep.Test name
+keep_tree (keeps.Not' p x) = keep.Not (keep_tree x)
+keep_tree (keeps.Both' p x q y) = keep.Both (keep_tree x) (keep_tree y)
+keep_tree (keeps.Either' p x q y) = keep.Either (keep_tree x) (keep_tree y)
+
 abbrev pub kind_tree : PartKind → KindTree
 kind_tree (kinds.Columns items) = Columns items.items
 kind_tree (kinds.Labels names) = Labels names.items
@@ -92,6 +104,8 @@ kind_tree (kinds.Table part) = Table (table_tree part)
 kind_tree (kinds.Times part) = Times (times_tree part)
 kind_tree (kinds.Generate shape) = Generate shape
 kind_tree (kinds.Test part) = Test (test_tree part)
+kind_tree (kinds.Named name part) = Named name (test_tree part)
+kind_tree (kinds.Keep part) = Keep (keep_tree part)
 kind_tree (kinds.Aggregate part) = Aggregate part
 
 abbrev pub part_tree : Part → PartTree

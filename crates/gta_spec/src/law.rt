@@ -13,7 +13,8 @@ pub fn declaration_limits()
     ensures tables { limits.TABLE_LIMIT ≡ 8 }
     ensures tests { limits.TEST_LIMIT ≡ 8 }
     ensures elements { limits.ELEMENT_LIMIT ≡ 64 }
-    ensures rows { limits.ROW_LIMIT ≡ 100000 }
+    ensures first_rows { limits.FIRST_ROW_LIMIT ≡ 100000 }
+    ensures rows { limits.ROW_LIMIT ≡ 400000 }
 {}
 
 /// How long a declaration may be, and how large its numbers. It does nothing: the numbers are its contract.
@@ -25,4 +26,7 @@ pub fn part_limits()
     ensures bound { limits.BOUND_LIMIT ≡ 8190 }
     ensures modulus { limits.MODULUS_LIMIT ≡ 8192 }
     ensures kept { limits.KEEP_LIMIT ≡ 64 }
+    ensures kept_names { limits.KEPT_NAME_LIMIT ≡ 64 }
+    ensures nesting { limits.NESTING_LIMIT ≡ 32 }
+    ensures ranks { limits.RANK_LIMIT ≡ 3 }
 {}

@@ -2,6 +2,7 @@
 
 use gta_text::Name;
 use shape_gen::Shape;
+use sqlite_items::Items;
 
 /// A specification: the version of the language, and its parts in order.
 #[derive(Debug, Drop)]
@@ -26,6 +27,10 @@ pub enum PartKind {
     Times(TimesPart),
     Generate(Shape),
     Test(TestPart),
+    /// A test that has a name. From version 2 on.
+    Named { name: Name, test: TestPart },
+    /// From version 2 on.
+    Keep(KeepPart),
     Aggregate(GoalPart),
 }
 
@@ -114,11 +119,37 @@ pub struct PickPart {
     pub cond: Vec<AtomPart>,
 }
 
+/// Which of the tests that have names a candidate must pass: one, not one, both, or one of two at least.
+/// `and` and `or` group to the left.
+#[derive(Debug, Drop)]
+pub enum KeepPart {
+    Test(Name),
+    Not(Box<KeepPart>),
+    Both(Box<KeepPart>, Box<KeepPart>),
+    Either(Box<KeepPart>, Box<KeepPart>),
+}
+
 #[derive(Debug, Drop)]
 pub enum GoalPart {
     Count,
     Any,
     Max(Name),
     Min(Name),
-    Best { k: u64, greatest: bool, name: Name },
+    Best {
+        k: u64,
+        greatest: bool,
+        name: Name,
+    },
+    /// Two or three totals, compared one after the other; with `k` the best k. From version 2 on.
+    Ranked {
+        k: Option<u64>,
+        keys: Items<RankPart>,
+    },
+}
+
+/// A total, and whether the greater or the lesser one is better.
+#[derive(Debug, Drop)]
+pub struct RankPart {
+    pub greatest: bool,
+    pub name: Name,
 }

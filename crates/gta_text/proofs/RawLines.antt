@@ -8,7 +8,7 @@ use Rattle.gta_text.specs.declared.token.Token.{Token}
 use Rattle.gta_text.specs.Lines.{is_inside}
 use Rattle.gta_text.specs.Tokens.{tokens_from}
 use Rattle.gta_text.specs.Text.{raw_lines, content, is_rows, first_bad, Found, BadByte, Numbered, line_if, with_lines}
-use Rattle.gta_text.specs.Text.{unless_bad, lines_from}
+use Rattle.gta_text.specs.Text.{unless_bad, lines_from, or_tokens, first_tokens_from}
 
 -- the length of the first line with its LF
 abbrev pub line_length : List ℕ → ℕ
@@ -108,3 +108,33 @@ module _ {source rest : List ℕ} {front : List Numbered} {number place n : ℕ}
       → SoFar source after (front ++ line_if number tokens) (number + 1) (place + length line) whole
   at_good no_rows good =
       record { joined = sym (regroup front (line_if number tokens) _) ∙ (rw (no_rows, good) at at_line) }
+
+-- The first line that has tokens.
+
+pub no_lines : (place : ℕ) (rest : List ℕ) → length rest ≡ 0 → first_tokens_from place (raw_lines rest) ≡ []
+unfolding raw_lines first_tokens_from
+no_lines place rest none = rw (nil_from_length rest none) refl
+
+first_turn : {place n : ℕ} {rest line after held : List ℕ} {tokens : List Token}
+    → Turn place n rest line after held tokens
+    → first_tokens_from place (raw_lines rest)
+    ≡ or_tokens tokens (first_tokens_from (place + length line) (raw_lines after))
+unfolding first_tokens_from
+first_turn {rest = rest} {line = line} {after = after} turn =
+    let unfolds : raw_lines rest ≡ line ∷ raw_lines after = rw (turn.front, turn.back, turn.len)
+    (raw_next rest turn.some) in
+    rw (unfolds, turn.read, turn.holds) refl
+
+pub goes_on : {place n : ℕ} {rest line after held : List ℕ} {tokens : List Token}
+    → Turn place n rest line after held tokens → length tokens ≡ 0
+    → first_tokens_from place (raw_lines rest) ≡ first_tokens_from (place + length line) (raw_lines after)
+goes_on {tokens = tokens} turn none = first_turn turn ∙ (rw (nil_from_length tokens none) refl)
+
+some_first : (tokens others : List Token) → 0 < length tokens → or_tokens tokens others ≡ tokens
+some_first [] others some = absurd (omega arith)
+some_first (token ∷ tokens) others some = refl
+
+pub ends_here : {place n : ℕ} {rest line after held : List ℕ} {tokens : List Token}
+    → Turn place n rest line after held tokens → 0 < length tokens
+    → first_tokens_from place (raw_lines rest) ≡ tokens
+ends_here {tokens = tokens} turn some = first_turn turn ∙ some_first tokens _ some

@@ -101,6 +101,21 @@ mark_length bs = if starts_with nat_eq bs (239 ∷ 187 ∷ 191 ∷ []) then 3 el
 unfoldable pub read_lines : List ℕ → Result Found BadByte
 read_lines bs = lines_from bs 1 (mark_length bs) (raw_lines (drop (mark_length bs) bs))
 
+-- these tokens, or the others where there are none
+abbrev pub or_tokens : List Token → List Token → List Token
+or_tokens [] others = others
+or_tokens (token ∷ tokens) others = token ∷ tokens
+
+-- the tokens of the first of these lines that has some, whatever bytes they hold; the lines stand at `place`
+unfoldable pub first_tokens_from : ℕ → List (List ℕ) → List Token
+first_tokens_from place [] = []
+first_tokens_from place (line ∷ others) =
+    or_tokens (tokens_from 0 place (content line)) (first_tokens_from (place + length line) others)
+
+-- the tokens of the first line that has some
+unfoldable pub first_tokens : List ℕ → List Token
+first_tokens bs = first_tokens_from (mark_length bs) (raw_lines (drop (mark_length bs) bs))
+
 abbrev pub line_view : Line → Numbered
 line_view line = record { number = line.number; tokens = line.tokens.items }
 

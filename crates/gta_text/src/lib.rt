@@ -14,7 +14,7 @@ mod words;
 
 pub use fault::TextFault;
 pub use law::text_limits;
-pub use lines::{INPUT_BOUND, Line, Lines, lines_of};
+pub use lines::{INPUT_BOUND, Line, Lines, first_tokens, lines_of};
 pub use name::Name;
 pub use numbers::{NUMBER_BOUND, digits_value, field_value};
 pub use token::{Token, TokenKind};

@@ -7,7 +7,8 @@ ghost use Rattle.std.specs.Str.{bytes_eq};
 ghost use Rattle.outcome_kit.specs.Outcome.{Tells};
 ghost use Rattle.gta_text.specs.Lines.{is_inside};
 ghost use Rattle.gta_text.specs.Text.{without_last, content, is_plain, first_bad, is_rows};
-ghost use Rattle.gta_text.specs.Text.{mark_length, read_lines, line_view, line_if, lines_view};
+ghost use Rattle.gta_text.specs.Text.{first_tokens, mark_length, read_lines, line_view, line_if};
+ghost use Rattle.gta_text.specs.Text.{lines_view};
 ghost use Rattle.gta_text.specs.Text.{fault_in, AreHeld};
 
 use crate::fault::TextFault;
@@ -44,6 +45,27 @@ pub fn lines_of(alloc: Global, bytes: &[u8]) -> Result<Lines, TextFault>
     ensures held { IfOk result (λ lines. AreHeld bytes.now 1 (lines_view lines).lines) }
 {
     read_lines(alloc, bytes)
+}
+
+/// The tokens of the first line that has some; none where no line has. Bytes that may not stand in a specification
+/// are not looked for. Refuses only for want of memory.
+pub fn first_tokens(alloc: Global, bytes: &[u8]) -> Result<Vec<Token>, AllocError>
+    requires { length bytes.now ≤ INPUT_BOUND }
+    ensures { IfOk result (λ tokens. tokens.items ≡ first_tokens bytes.now) }
+{
+    let mark = mark_length(bytes);
+    let mut place = mark as u32;
+    let mut rest = bytes.split_at(mark).1;
+    while !rest.is_empty() {
+        let (line, after) = rest.split_at(line_length(rest));
+        let tokens = tokens_of(alloc, content(line), place)?;
+        if !tokens.is_empty() {
+            return Ok(tokens);
+        }
+        place += line.len() as u32;
+        rest = after;
+    }
+    Ok(Vec::new(alloc))
 }
 
 fn read_lines(alloc: Global, bytes: &[u8]) -> Result<Lines, TextFault>
