@@ -3,3 +3,4 @@ pub mod Tables
 pub mod Within
 pub mod Cells
 pub mod PlainRows
+pub mod Codes

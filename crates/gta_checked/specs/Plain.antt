@@ -1,5 +1,5 @@
 -- A checked specification with lists in place of vectors, as definitions speak of it.
-use Rattle.std.specs.Prelude.{ℕ, List, map}
+use Rattle.std.specs.Prelude.{ℕ, Bool, List, map, Option, option_map}
 use Rattle.shape_gen.specs.declared.shape.Shape.{Shape}
 use Rattle.monoid_kit.specs.Table.{PlainTable}
 use Rattle.monoid_kit.specs.TableOf.{plain_table}
@@ -13,7 +13,11 @@ use Rattle.gta_checked.specs.declared.resolved.Pick.{Pick}
 use Rattle.gta_checked.specs.declared.resolved.Table.{Table}
 use Rattle.gta_checked.specs.declared.resolved.Test.{Test}
 use Rattle.gta_checked.specs.declared.resolved.Test.TheVariants as tests
+use Rattle.gta_checked.specs.declared.resolved.Keep.{Keep}
+use Rattle.gta_checked.specs.declared.resolved.Keep.TheVariants as keeps
 use Rattle.gta_checked.specs.declared.resolved.Goal.{Goal}
+use Rattle.gta_spec.specs.Keep as keep
+use Rattle.gta_spec.specs.Keep.{KeepTree}
 
 -- a linear form, and the atoms of its condition
 pub record PlainCase : Type 0 where
@@ -44,6 +48,9 @@ pub record PlainChecked : Type 0 where
   pub measures : List (List PlainCase)
   pub tables : List NamedTable
   pub tests : List PlainTest
+  -- whether each test has a name, and what those that have one must come to together
+  pub named : List Bool
+  pub keep : Option (KeepTree ℕ)
   pub shape : Shape
   pub goal : Goal
 
@@ -68,9 +75,18 @@ plain_test (tests.Sum measure check) = Sum measure check
 plain_test (tests.Length check) = Length check
 plain_test (tests.Fold table picks accept) = Fold table (map plain_pick picks.items) accept.items
 
+abbrev pub plain_keep : Keep → KeepTree ℕ
+plain_keep (keeps.Test test) = keep.Test test
+plain_keep (keeps.Not' p x) = keep.Not (plain_keep x)
+plain_keep (keeps.Both' p x q y) = keep.Both (plain_keep x) (plain_keep y)
+plain_keep (keeps.Either' p x q y) = keep.Either (plain_keep x) (plain_keep y)
+
+abbrev pub plain_keep_if : Option Keep → Option (KeepTree ℕ)
+plain_keep_if keep = option_map plain_keep keep
+
 abbrev pub plain_checked : ℕ → List ColumnItem → List (List ℕ) → List Measure → List Table → List Test
-    → Shape → Goal → PlainChecked
-plain_checked version columns labels measures tables tests shape goal =
+    → List Bool → Option Keep → Shape → Goal → PlainChecked
+plain_checked version columns labels measures tables tests named keep shape goal =
     record {
       version = version;
       columns = columns;
@@ -78,6 +94,8 @@ plain_checked version columns labels measures tables tests shape goal =
       measures = map plain_measure measures;
       tables = map plain_named tables;
       tests = map plain_test tests;
+      named = named;
+      keep = plain_keep_if keep;
       shape = shape;
       goal = goal;
     }

@@ -1,18 +1,21 @@
 -- The limits that every checked specification keeps: its numbers are declared, and its lists and numbers are not too
 -- large.
-use Rattle.std.specs.Prelude.{◌≡◌, ℕ, ◌+◌, ◌<◌, ◌≤◌, ◌↔◌, ℤ, pos, ◌≤ℤ◌, nat_abs, List, length, Option, Some, None, All}
+use Rattle.std.specs.Prelude.{◌≡◌, ℕ, ◌+◌, ◌<◌, ◌≤◌, ◌↔◌, ℤ, pos, ◌≤ℤ◌, nat_abs, true, List, length, Option, Some, None, All}
 use Rattle.gta_text.specs.declared.numbers.TheConstants.{NUMBER_BOUND}
 use Rattle.shape_gen.specs.declared.shape.Shape.TheVariants.{Assign}
 use Rattle.gta_spec.specs.declared.limits.TheConstants.{ATOM_LIMIT, BOUND_LIMIT, CASE_LIMIT, COLUMN_LIMIT, FACTOR_LIMIT}
 use Rattle.gta_spec.specs.declared.limits.TheConstants.{KEEP_LIMIT, LABEL_LIMIT, MEASURE_LIMIT, MODULUS_LIMIT}
-use Rattle.gta_spec.specs.declared.limits.TheConstants.{TABLE_LIMIT, TERM_LIMIT, TEST_LIMIT}
+use Rattle.gta_spec.specs.declared.limits.TheConstants.{RANK_LIMIT, TABLE_LIMIT, TERM_LIMIT, TEST_LIMIT}
+use Rattle.gta_spec.specs.Versions.{is_version}
 use Rattle.gta_spec.specs.declared.parts.Check.{Check}
 use Rattle.gta_spec.specs.declared.parts.Check.TheVariants.{Compare, Mod}
 use Rattle.gta_checked.specs.declared.resolved.Term.{Term}
 use Rattle.gta_checked.specs.declared.resolved.Atom.{Atom}
 use Rattle.gta_checked.specs.declared.resolved.Atom.TheVariants.{Label, Column}
 use Rattle.gta_checked.specs.declared.resolved.Goal.{Goal}
-use Rattle.gta_checked.specs.declared.resolved.Goal.TheVariants.{Count, Any, Max, Min, Best}
+use Rattle.gta_checked.specs.declared.resolved.Goal.TheVariants.{Count, Any, Max, Min, Best, Ranked}
+use Rattle.gta_checked.specs.declared.resolved.Rank.{Rank}
+use Rattle.gta_spec.specs.Keep.{KeepTree, kept_tests}
 use Rattle.monoid_kit.specs.Table.{IsLawfulTable}
 use Rattle.gta_checked.specs.Plain.{NamedTable, PlainCase, PlainPick, PlainTest, Sum, Length, Fold, PlainChecked}
 use Rattle.gta_checked.specs.Tables.{table_at}
@@ -70,14 +73,31 @@ IsTestWithin columns labels measures tables (Length check) = IsCheckWithin check
 IsTestWithin columns labels measures tables (Fold table picks accept) =
     IsFoldWithin columns labels tables table picks accept
 
+abbrev pub IsKeptWithin : Option ℕ → Type 0
+IsKeptWithin None = Unit {0}
+IsKeptWithin (Some k) = (1 ≤ k) × (k ≤ KEEP_LIMIT)
+
+-- two or three measures
+pub record AreRanksWithin (measures : ℕ) (keys : List Rank) : Type 0 where
+  pub several : 2 ≤ length keys
+  pub few : length keys ≤ RANK_LIMIT
+  pub declared : All (λ rank. rank.measure < measures) keys
+
 abbrev pub IsGoalWithin : ℕ → Goal → Type 0
 IsGoalWithin measures Count = Unit {0}
 IsGoalWithin measures Any = Unit {0}
 IsGoalWithin measures (Max measure) = measure < measures
 IsGoalWithin measures (Min measure) = measure < measures
 IsGoalWithin measures (Best k greatest measure) = (1 ≤ k) × (k ≤ KEEP_LIMIT) × (measure < measures)
+IsGoalWithin measures (Ranked k keys) = IsKeptWithin k × AreRanksWithin measures keys
+
+-- an expression speaks of declared tests
+abbrev pub IsKeepWithin : ℕ → Option (KeepTree ℕ) → Type 0
+IsKeepWithin tests None = Unit {0}
+IsKeepWithin tests (Some keep) = All (λ test. test < tests) (kept_tests keep)
 
 pub record IsWithinLimits (checked : PlainChecked) : Type 0 where
+  pub version : is_version checked.version ≡ true
   pub few_columns : length checked.columns ≤ COLUMN_LIMIT
   pub few_labels : length checked.labels ≤ LABEL_LIMIT
   -- assignments alone have labels
@@ -89,4 +109,6 @@ pub record IsWithinLimits (checked : PlainChecked) : Type 0 where
   pub few_tests : length checked.tests ≤ TEST_LIMIT
   pub tests : All (IsTestWithin (length checked.columns) (length checked.labels) (length checked.measures)
       checked.tables) checked.tests
+  pub each_named : length checked.named ≡ length checked.tests
+  pub keep : IsKeepWithin (length checked.tests) checked.keep
   pub goal : IsGoalWithin (length checked.measures) checked.goal

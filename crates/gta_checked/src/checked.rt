@@ -1,10 +1,10 @@
 //! A checked specification. What contracts see of it is in specs/Plain.antt, its limits are in specs/Within.antt.
 
 ghost use Rattle.std.specs.Prelude.{◌≡◌, map};
-ghost use Rattle.gta_checked.specs.Plain.{plain_checked, plain_measure, plain_named, plain_test};
+ghost use Rattle.gta_checked.specs.Plain.{plain_checked, plain_keep_if, plain_measure, plain_named, plain_test};
 ghost use Rattle.gta_checked.specs.Within.{IsWithinLimits};
 
-use crate::resolved::{Goal, Measure, Table, Test};
+use crate::resolved::{Goal, Keep, Measure, Table, Test};
 use gta_spec::ColumnItem;
 use gta_text::Name;
 use shape_gen::Shape;
@@ -19,6 +19,8 @@ pub struct Checked {
     measures: Vec<Measure>,
     tables: Vec<Table>,
     tests: Vec<Test>,
+    named: Vec<bool>,
+    keep: Option<Keep>,
     shape: Shape,
     goal: Goal,
 }
@@ -27,13 +29,18 @@ impl Model for Checked {
     ghost use Rattle.gta_checked.specs.Plain.{PlainChecked, plain_checked};
     ghost use Rattle.gta_checked.specs.Within.{IsWithinLimits};
 
+    ghost use Rattle.std.specs.Coded.{codes};
+    ghost use Rattle.gta_checked.specs.Codes.{coded_keep};
+
     ghost Value = { PlainChecked };
 
+    ghost coded = { Prim.hlevel (codes, coded_keep) };
+
     ghost view = { λ c. plain_checked c.version c.columns.items c.labels.items c.measures.items
-        c.tables.items c.tests.items c.shape c.goal };
+        c.tables.items c.tests.items c.named.items c.keep c.shape c.goal };
 
     ghost invariant = { λ c. IsWithinLimits (plain_checked c.version c.columns.items c.labels.items
-        c.measures.items c.tables.items c.tests.items c.shape c.goal) };
+        c.measures.items c.tables.items c.tests.items c.named.items c.keep c.shape c.goal) };
 }
 
 /// Each reader lends its part, and takes no memory.
@@ -46,13 +53,15 @@ impl Checked {
         measures: Vec<Measure>,
         tables: Vec<Table>,
         tests: Vec<Test>,
+        named: Vec<bool>,
+        keep: Option<Keep>,
         shape: Shape,
         goal: Goal,
     ) -> Checked
         requires within { IsWithinLimits (plain_checked version columns.items labels.items
-            measures.items tables.items tests.items shape goal) }
+            measures.items tables.items tests.items named.items keep shape goal) }
         ensures { result ≡ plain_checked version columns.items labels.items
-            measures.items tables.items tests.items shape goal }
+            measures.items tables.items tests.items named.items keep shape goal }
     {
         Checked {
             version,
@@ -61,6 +70,8 @@ impl Checked {
             measures,
             tables,
             tests,
+            named,
+            keep,
             shape,
             goal,
         }
@@ -111,6 +122,22 @@ impl Checked {
         ensures within { IsWithinLimits self.now }
     {
         &self.tests
+    }
+
+    /// Whether each test has a name, in the order of the tests.
+    pub fn named(&self) -> &Vec<bool>
+        ensures named { result.now.items ≡ self.now.named }
+        ensures within { IsWithinLimits self.now }
+    {
+        &self.named
+    }
+
+    /// The expression over tests that a candidate must meet beside the tests without a name, where a line says one.
+    pub fn keep(&self) -> &Option<Keep>
+        ensures keep { plain_keep_if result.now ≡ self.now.keep }
+        ensures within { IsWithinLimits self.now }
+    {
+        &self.keep
     }
 
     /// Which candidates are generated.

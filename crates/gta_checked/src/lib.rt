@@ -7,5 +7,5 @@ mod resolved;
 mod rows;
 
 pub use checked::Checked;
-pub use resolved::{Atom, Case, Goal, Measure, Pick, Table, Term, Test};
+pub use resolved::{Atom, Case, Goal, Keep, Measure, Pick, Rank, Table, Term, Test};
 pub use rows::Rows;

@@ -4,6 +4,7 @@
 use gta_spec::{Check, Cmp};
 use gta_text::Name;
 use monoid_kit::TableMonoid;
+use sqlite_items::Items;
 
 /// A number, or a factor times a column.
 #[derive(Clone, Copy, PartialEq, Eq, Debug)]
@@ -64,8 +65,17 @@ pub enum Test {
     },
 }
 
+/// Which tests a candidate must pass, by their numbers: one, not one, both, or one of two at least.
+#[derive(Debug, Drop)]
+pub enum Keep {
+    Test(u32),
+    Not(Box<Keep>),
+    Both(Box<Keep>, Box<Keep>),
+    Either(Box<Keep>, Box<Keep>),
+}
+
 /// What is asked of the candidates that pass.
-#[derive(Clone, Copy, PartialEq, Eq, Debug)]
+#[derive(Debug, Drop)]
 pub enum Goal {
     Count,
     Any,
@@ -76,4 +86,16 @@ pub enum Goal {
         greatest: bool,
         measure: u32,
     },
+    /// Two or three totals, compared one after the other; with `k` the best k.
+    Ranked {
+        k: Option<u32>,
+        keys: Items<Rank>,
+    },
+}
+
+/// A measure, and whether the greater or the lesser total is better.
+#[derive(Clone, Copy, PartialEq, Eq, Debug)]
+pub struct Rank {
+    pub greatest: bool,
+    pub measure: u32,
 }
