@@ -28,7 +28,6 @@ pub struct Checked {
 impl Model for Checked {
     ghost use Rattle.gta_checked.specs.Plain.{PlainChecked, plain_checked};
     ghost use Rattle.gta_checked.specs.Within.{IsWithinLimits};
-
     ghost use Rattle.std.specs.Coded.{codes};
     ghost use Rattle.gta_checked.specs.Codes.{coded_keep};
 

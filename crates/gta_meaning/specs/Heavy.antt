@@ -5,18 +5,19 @@ use Rattle.std.specs.List.{find, fold, range_with_len}
 use Rattle.gta_text.specs.declared.numbers.TheConstants.{NUMBER_BOUND}
 use Rattle.gta_checked.specs.PlainRows.{PlainRows}
 use Rattle.gta_checked.specs.declared.resolved.Goal.{Goal}
-use Rattle.gta_checked.specs.declared.resolved.Goal.TheVariants.{Count, Any, Max, Min, Best}
+use Rattle.gta_checked.specs.declared.resolved.Goal.TheVariants.{Count, Any, Max, Min, Best, Ranked}
 use Rattle.gta_checked.specs.Plain.{PlainChecked}
 use Rattle.gta_meaning.specs.InRange.{label_count}
 use Rattle.gta_meaning.specs.Values.{value}
 
--- the measure of an aggregate, where it has one
+-- the measure of an aggregate, where it has one; several totals aren't weighed
 abbrev pub goal_measure : Goal → Option ℕ
 goal_measure Count = None
 goal_measure Any = None
 goal_measure (Max measure) = Some measure
 goal_measure (Min measure) = Some measure
 goal_measure (Best k greatest measure) = Some measure
+goal_measure (Ranked k keys) = None
 
 -- the absolute values of a measure at a row, label by label
 abbrev pub sizes : PlainChecked → PlainRows → ℕ → ℕ → List ℕ

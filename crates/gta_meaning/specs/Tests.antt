@@ -1,11 +1,13 @@
--- The candidates that pass: those of which every test holds.
-use Rattle.std.specs.Prelude.{ℤ, pos, Bool, ◌==◌, List, length}
+-- The candidates that pass: those of which every test holds, or the tests and the expression that say what is kept.
+use Rattle.std.specs.Prelude.{ℤ, pos, Bool, true, false, ◌&&◌, ◌||◌, ◌==◌, List, [], ◌∷◌, length, map, slice_index_or}
+use Rattle.std.specs.Prelude.{ℕ, Option, Some, None}
 use Rattle.std.specs.Int.{int_rem_euclid}
 use Rattle.std.specs.Ordering.{int_eq}
 use Rattle.std.specs.List.{list_all, list_any}
 use Rattle.shape_gen.specs.declared.mark.Mark.{Mark}
 use Rattle.gta_spec.specs.declared.parts.Check.{Check}
 use Rattle.gta_spec.specs.declared.parts.Check.TheVariants.{Compare, Mod}
+use Rattle.gta_spec.specs.Keep.{KeepTree, keep_holds}
 use Rattle.gta_checked.specs.PlainRows.{PlainRows}
 use Rattle.gta_checked.specs.Plain.{PlainTest, Sum, Length, Fold, PlainChecked}
 use Rattle.gta_checked.specs.Tables.{table_at}
@@ -26,6 +28,21 @@ passes_test checked rows marks (Length check) = meets check (pos (length marks))
 passes_test checked rows marks (Fold table picks accept) =
     list_any (λ element. element == folded rows (table_at checked.tables table).products picks marks) accept
 
--- every test holds
+-- the tests without a name hold, by what each test comes to
+abbrev pub unnamed_hold : List Bool → List Bool → Bool
+unnamed_hold (named ∷ others) (holds ∷ later) = (named || holds) && unnamed_hold others later
+unnamed_hold _ _ = true
+
+-- whether a candidate passes, by what each test comes to: each holds; or where an expression says what is kept, each
+-- without a name holds, and the expression does
+abbrev pub verdict : Option (KeepTree ℕ) → List Bool → List Bool → Bool
+verdict None named outcomes = list_all (λ holds. holds) outcomes
+verdict (Some keep) named outcomes =
+    unnamed_hold named outcomes && keep_holds (λ test. slice_index_or outcomes test false) keep
+
+-- what each test comes to, in the order of the tests
+abbrev pub outcomes : PlainChecked → PlainRows → List Mark → List Bool
+outcomes checked rows marks = map (passes_test checked rows marks) checked.tests
+
 abbrev pub passes : PlainChecked → PlainRows → List Mark → Bool
-passes checked rows marks = list_all (passes_test checked rows marks) checked.tests
+passes checked rows marks = verdict checked.keep checked.named (outcomes checked rows marks)
