@@ -49,7 +49,7 @@ end_of_table (table.Missing column) = Refused (refusals.ColumnMissing column)
 end_of_table (table.ColumnTwice column) = Refused (refusals.ColumnTwice column)
 end_of_table (table.Length row fields header) = Refused (refusals.Length row fields header)
 end_of_table (table.Field row column) = Refused (refusals.Field row column)
-end_of_table table.TooMany = Refused refusals.TooMany
+end_of_table (table.TooMany limit) = Refused (refusals.TooMany limit)
 end_of_table table.Memory = Memory
 
 -- the refusal that a job ends with, where it ends with one; want of memory is none
@@ -60,7 +60,7 @@ refusal_in Memory = None
 -- the refusal of an end. Want of memory is none: no definition of what bytes are gives it
 abbrev pub refused : {T : Type 0} → JobEnd → Result T Refusal
 refused (Refused refusal) = Err refusal
-refused Memory = Err Input
+refused Memory = Err (Input 0)
 
 -- the same outcome, where its fault is told as a refusal
 abbrev pub told_by : {T F : Type 0} → (F → JobEnd) → Result T F → Result T Refusal

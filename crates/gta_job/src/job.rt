@@ -1,15 +1,14 @@
 //! Answers a whole job, and shows its specification. What a command comes to on bytes, its text or its first refusal,
 //! is in specs/Outcome.antt; the steps that commands share are in steps.rt.
 
-ghost use Rattle.std.specs.Prelude.{◌≡◌, ◌≤◌, length};
+ghost use Rattle.std.specs.Prelude.{◌≡◌, ◌≤◌};
 ghost use Rattle.gta_words.specs.declared.words.Command.TheVariants.{Run, Show};
 ghost use Rattle.gta_words.specs.declared.words.TheConstants.{LEAF_LIMIT, WORKER_LIMIT};
-ghost use Rattle.gta_text.specs.declared.lines.TheConstants.{INPUT_BOUND};
 ghost use Rattle.gta_job.specs.Ends.{Tells};
 ghost use Rattle.gta_job.specs.Outcome.{outcome};
 
 use crate::rows_job::rows_report;
-use crate::steps::{bytes_from, checked_spec, table_rows};
+use crate::steps::{built_spec, bytes_from, checked_spec, table_rows};
 use fuse_answer::{Crew, Job};
 use gta_canonical::show_spec;
 use gta_rows::RowsFault;
@@ -22,7 +21,10 @@ use std::thread::Threads;
 use worker_pool::{Gate, OpenGate};
 
 /// The most bytes that an input may have.
-pub const INPUT_LIMIT: usize = 16777216;
+pub const INPUT_LIMIT: usize = 67108864;
+
+/// The most bytes that an input of version 1 may have.
+pub const FIRST_INPUT_LIMIT: usize = 16777216;
 
 /// Why a job has no text.
 #[derive(Debug, Drop)]
@@ -130,7 +132,7 @@ impl From<RowsFault> for JobEnd {
                 header,
             }),
             RowsFault::Field { row, column } => JobEnd::Refused(Refusal::Field { row, column }),
-            RowsFault::TooMany => JobEnd::Refused(Refusal::TooMany),
+            RowsFault::TooMany { limit } => JobEnd::Refused(Refusal::TooMany { limit }),
             RowsFault::Memory => JobEnd::Memory,
         }
     }
@@ -145,7 +147,6 @@ pub fn answer_job<R: Threads + Sync>(
     workers: u32,
     leaf: u32,
 ) -> Result<Vec<u8>, JobEnd>
-    requires within { length bytes.now ≤ INPUT_BOUND }
     requires some_workers { 1 ≤ workers }
     requires few_workers { workers ≤ WORKER_LIMIT }
     requires some_leaf { 1 ≤ leaf }
@@ -164,14 +165,13 @@ pub fn answer_with<R: Threads + Sync, G: Gate + Sync>(
     leaf: u32,
     gate: &G,
 ) -> Result<Vec<u8>, JobEnd>
-    requires within { length bytes.now ≤ INPUT_BOUND }
     requires some_workers { 1 ≤ workers }
     requires few_workers { workers ≤ WORKER_LIMIT }
     requires some_leaf { 1 ≤ leaf }
     requires few_leaf { leaf ≤ LEAF_LIMIT }
     ensures tells { Tells (λ text. text.items) (outcome (Run workers leaf) bytes.now) result }
 {
-    let (read, checked) = checked_spec(alloc, bytes)?;
+    let (read, checked) = built_spec(alloc, bytes)?;
     let rows = table_rows(alloc, &checked, bytes_from(bytes, read.rows_at))?;
     let crew = Crew {
         rt,
@@ -185,7 +185,6 @@ pub fn answer_with<R: Threads + Sync, G: Gate + Sync>(
 
 /// The canonical text of the specification that the bytes hold, or its refusal. The table is not looked at.
 pub fn show_job(alloc: Global, bytes: &[u8]) -> Result<Vec<u8>, JobEnd>
-    requires within { length bytes.now ≤ INPUT_BOUND }
     ensures tells { Tells (λ text. text.items) (outcome Show bytes.now) result }
 {
     let (read, _checked) = checked_spec(alloc, bytes)?;

@@ -13,7 +13,7 @@ mod size;
 mod steps;
 
 pub use drilling::drill_job;
-pub use job::{INPUT_LIMIT, JobEnd, answer_job, answer_with, show_job};
+pub use job::{FIRST_INPUT_LIMIT, INPUT_LIMIT, JobEnd, answer_job, answer_with, show_job};
 pub use law::job_limits;
 pub use listing::{CANDIDATE_LIMIT, MARK_LIMIT, list_job};
 pub use size::SIZE_LIMIT;

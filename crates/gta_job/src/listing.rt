@@ -1,9 +1,8 @@
 //! Lists the candidates that a job keeps. Which text that is, and which refusal comes in its place, is in
 //! specs/Outcome.antt.
 
-ghost use Rattle.std.specs.Prelude.{◌≡◌, ◌≤◌, length, All, IfOk};
+ghost use Rattle.std.specs.Prelude.{◌≡◌, All, IfOk};
 ghost use Rattle.report_text.specs.Texts.{AreLabelled, list_text};
-ghost use Rattle.gta_text.specs.declared.lines.TheConstants.{INPUT_BOUND};
 ghost use Rattle.gta_words.specs.declared.words.Command.TheVariants.{List as ListKept};
 ghost use Rattle.gta_checked.specs.PlainRows.{plain_rows};
 ghost use Rattle.gta_meaning.specs.Kept.{kept};
@@ -13,7 +12,7 @@ ghost use Rattle.gta_job.specs.Outcome as outcomes;
 ghost use Rattle.gta_job.specs.Outcome.{list_refusal, outcome};
 
 use crate::job::JobEnd;
-use crate::steps::{bytes_from, checked_spec, refuse_heavy, refuse_negative, table_rows};
+use crate::steps::{built_spec, bytes_from, refuse_heavy, refuse_negative, table_rows};
 use fuse_answer::Job;
 use gta_meaning::{Candidate, ListFault, list_kept};
 use gta_text::Name;
@@ -28,10 +27,9 @@ pub const MARK_LIMIT: u64 = 4194304;
 
 /// The list of the candidates that pass, in their order, or the refusal of the job that the bytes hold.
 pub fn list_job(alloc: Global, bytes: &[u8]) -> Result<Vec<u8>, JobEnd>
-    requires within { length bytes.now ≤ INPUT_BOUND }
     ensures tells { Tells (λ text. text.items) (outcome ListKept bytes.now) result }
 {
-    let (read, checked) = checked_spec(alloc, bytes)?;
+    let (read, checked) = built_spec(alloc, bytes)?;
     let rows = table_rows(alloc, &checked, bytes_from(bytes, read.rows_at))?;
     rows_list(alloc, &Job { checked, rows })
 }

@@ -1,13 +1,13 @@
 //! A job: what refuses its rows, and the report of the answer. Its aggregates are listed here, each with its question.
 
-ghost use Rattle.std.specs.Prelude.{◌≡◌, None, IfOk};
-ghost use Rattle.report_text.specs.Texts.{report_text};
+ghost use Rattle.std.specs.Prelude.{◌≡◌, None, Ok, Some, IfOk};
 ghost use Rattle.gta_checked.specs.PlainRows.{plain_rows};
 ghost use Rattle.test_homs.specs.Homs.{ArePrepared};
 ghost use Rattle.test_homs.specs.Negatives.{first_negative};
 ghost use Rattle.gta_job.specs.Answers as answers;
 ghost use Rattle.gta_job.specs.Ends.{Passes, Tells};
 ghost use Rattle.gta_job.specs.Outcome as outcomes;
+ghost use Rattle.gta_job.specs.Outcome.{unbuilt_refusal};
 ghost use Rattle.gta_job.specs.Sizes.{keys_refusal, size_refusal};
 
 use crate::job::JobEnd;
@@ -30,6 +30,7 @@ pub(crate) fn rows_report<R: Threads + Sync, G: Gate + Sync>(
     crew: &Crew<R, G>,
     job: Job,
 ) -> Result<Vec<u8>, JobEnd>
+    requires built { unbuilt_refusal job.checked.goal ≡ None }
     ensures tells { let report = outcomes.rows_report crew.now.leaf job.checked (plain_rows job.rows) in
         Tells (λ text. text.items) report result }
 {
@@ -58,11 +59,12 @@ fn answer_report<R: Threads + Sync, G: Gate + Sync>(
     crew: &Crew<R, G>,
     prepared: &PreparedJob,
 ) -> Result<Vec<u8>, JobEnd>
+    requires built { unbuilt_refusal prepared.now.job.checked.goal ≡ None }
     ensures passes { let job = prepared.now.job in
         Passes (size_refusal crew.now.leaf job.checked (plain_rows job.rows)) result }
     ensures text { let job = prepared.now.job in
-        IfOk result (λ text.
-        text.items ≡ report_text (answers.answer job.checked (plain_rows job.rows)) job.checked.labels) }
+        IfOk result (λ text. Ok text.items
+        ≡ answers.answer_report (answers.answer job.checked (plain_rows job.rows)) job.checked.labels) }
 {
     let answer = answer_of(crew, prepared)?;
     Ok(report(crew.alloc, &answer, prepared.job.checked.labels())?)
@@ -73,20 +75,21 @@ fn answer_of<R: Threads + Sync, G: Gate + Sync>(
     crew: &Crew<R, G>,
     prepared: &PreparedJob,
 ) -> Result<Answer, JobEnd>
+    requires built { unbuilt_refusal prepared.now.job.checked.goal ≡ None }
     ensures passes { let job = prepared.now.job in
         Passes (size_refusal crew.now.leaf job.checked (plain_rows job.rows)) result }
     ensures answer { let job = prepared.now.job in
-        IfOk result (λ answer. answer ≡ answers.answer job.checked (plain_rows job.rows)) }
+        IfOk result (λ answer. Some answer ≡ answers.answer job.checked (plain_rows job.rows)) }
 {
-    match *prepared.job.checked.goal() {
+    match prepared.job.checked.goal() {
         Goal::Count => Ok(Answer::Count(lane_asked(crew, prepared, &HowMany)?)),
         Goal::Any => Ok(Answer::Any(lane_asked(crew, prepared, &Whether)?)),
         Goal::Max(measure) => {
-            let total = lane_asked(crew, prepared, &GreatestOf { measure })?;
+            let total = lane_asked(crew, prepared, &GreatestOf { measure: *measure })?;
             Ok(Answer::Total(total))
         }
         Goal::Min(measure) => {
-            let total = lane_asked(crew, prepared, &LeastOf { measure })?;
+            let total = lane_asked(crew, prepared, &LeastOf { measure: *measure })?;
             Ok(Answer::Total(total))
         }
         Goal::Best {
@@ -95,12 +98,13 @@ fn answer_of<R: Threads + Sync, G: Gate + Sync>(
             measure,
         } => {
             let question = BestOf {
-                k,
-                greatest,
-                measure,
+                k: *k,
+                greatest: *greatest,
+                measure: *measure,
             };
             Ok(Answer::Best(asked(crew, prepared, &question)?))
         }
+        Goal::Ranked { .. } => unreachable!(),
     }
 }
 

@@ -1,7 +1,6 @@
 //! The steps from bytes to rows that commands share, in the order in which they stop at a refusal.
 
-ghost use Rattle.std.specs.Prelude.{◌≡◌, ◌≤◌, drop, length, slice_get, IfOk};
-ghost use Rattle.gta_text.specs.declared.lines.TheConstants.{INPUT_BOUND};
+ghost use Rattle.std.specs.Prelude.{◌≡◌, ◌≤◌, None, drop, length, slice_get, IfOk, OnOk};
 ghost use Rattle.gta_spec.specs.Parts.{spec_tree};
 ghost use Rattle.gta_spec.specs.WellFormed.{IsWellFormed};
 ghost use Rattle.gta_spec.specs.declared.limits.TheConstants.{ROW_LIMIT};
@@ -9,35 +8,89 @@ ghost use Rattle.gta_syntax.specs.Refusals.{read_tree};
 ghost use Rattle.gta_types.specs.ResolvedOf.{resolved_of};
 ghost use Rattle.gta_checked.specs.PlainRows.{plain_rows};
 ghost use Rattle.gta_meaning.specs.InRange.{HasColumnsOf};
+ghost use Rattle.report_text.specs.declared.refusal.Refusal.TheVariants as Refusal;
 ghost use Rattle.gta_job.specs.Ends.{Passes, Tells};
 ghost use Rattle.gta_job.specs.Outcome as outcomes;
-ghost use Rattle.gta_job.specs.Outcome.{specification, negative_of, negative_refusal, heavy_refusal};
+ghost use Rattle.gta_job.specs.Outcome.{built_specification, heavy_refusal, input_refusal, negative_of};
+ghost use Rattle.gta_job.specs.Outcome.{negative_refusal, specification, unbuilt_refusal};
+ghost use Rattle.gta_job.specs.declared.job.TheConstants.{INPUT_LIMIT};
 
-use crate::job::{INPUT_LIMIT, JobEnd};
-use gta_checked::{Checked, Rows};
+use crate::job::{FIRST_INPUT_LIMIT, INPUT_LIMIT, JobEnd};
+use gta_checked::{Checked, Goal, Rows};
 use gta_meaning::first_heavy;
 use gta_rows::read_rows;
-use gta_syntax::{Read, read_spec};
+use gta_syntax::{Read, first_version, read_spec};
 use gta_text::Name;
 use gta_types::check;
 use report_text::Refusal;
 use std::alloc::{AllocError, Global};
 use test_homs::{Negative, first_negative};
 
+/// Refuses an input of too many bytes.
+fn refuse_input(alloc: Global, bytes: &[u8]) -> Result<(), JobEnd>
+    ensures passes { Passes (input_refusal bytes.now) result }
+    ensures within { OnOk result (length bytes.now ≤ INPUT_LIMIT) }
+{
+    if bytes.len() > INPUT_LIMIT {
+        return Err(JobEnd::Refused(input_past(INPUT_LIMIT)));
+    }
+    if bytes.len() > FIRST_INPUT_LIMIT && !is_large(first_version(alloc, bytes)?) {
+        return Err(JobEnd::Refused(input_past(FIRST_INPUT_LIMIT)));
+    }
+    Ok(())
+}
+
+/// Whether this version takes inputs past the limit of the first.
+fn is_large(version: Option<u8>) -> bool
+    ensures { result ≡ outcomes.is_large version }
+{
+    version == Some(2)
+}
+
+/// The refusal of an input past this limit.
+fn input_past(limit: usize) -> Refusal
+    requires { limit ≤ INPUT_LIMIT }
+    ensures { result ≡ Refusal.Input limit }
+{
+    Refusal::Input {
+        limit: limit as u32,
+    }
+}
+
 /// The specification that the bytes hold, as it is read and as it is resolved, or the refusal of too many bytes or of
 /// their text.
 pub(crate) fn checked_spec(alloc: Global, bytes: &[u8]) -> Result<(Read, Checked), JobEnd>
-    requires within { length bytes.now ≤ INPUT_BOUND }
     ensures tells { Tells (λ taken. read_tree taken.0) (specification bytes.now) result }
+    ensures within { OnOk result (length bytes.now ≤ INPUT_LIMIT) }
     ensures well_formed { IfOk result (λ taken. IsWellFormed (spec_tree taken.0.spec)) }
     ensures resolved { IfOk result (λ taken. taken.1 ≡ resolved_of (spec_tree taken.0.spec)) }
 {
-    if bytes.len() > INPUT_LIMIT {
-        return Err(JobEnd::Refused(Refusal::Input));
-    }
+    refuse_input(alloc, bytes)?;
     let read = read_spec(alloc, bytes)?;
     let checked = check(alloc, &read.spec)?;
     Ok((read, checked))
+}
+
+/// The same for a job that is run or listed: it may not ask for what isn't built.
+pub(crate) fn built_spec(alloc: Global, bytes: &[u8]) -> Result<(Read, Checked), JobEnd>
+    ensures tells { Tells (λ taken. read_tree taken.0) (built_specification bytes.now) result }
+    ensures within { OnOk result (length bytes.now ≤ INPUT_LIMIT) }
+    ensures resolved { IfOk result (λ taken. taken.1 ≡ resolved_of (spec_tree taken.0.spec)) }
+    ensures built { IfOk result (λ taken. unbuilt_refusal taken.1.goal ≡ None) }
+{
+    let (read, checked) = checked_spec(alloc, bytes)?;
+    refuse_unbuilt(&checked)?;
+    Ok((read, checked))
+}
+
+/// Refuses an aggregate that isn't built yet.
+fn refuse_unbuilt(checked: &Checked) -> Result<(), JobEnd>
+    ensures passes { Passes (unbuilt_refusal checked.now.goal) result }
+{
+    match checked.goal() {
+        Goal::Ranked { .. } => Err(JobEnd::Refused(Refusal::Unbuilt)),
+        _ => Ok(()),
+    }
 }
 
 /// The bytes from this place on, none where the place is past their end.
@@ -49,7 +102,7 @@ pub(crate) fn bytes_from(bytes: &[u8], place: u32) -> &[u8]
 
 /// The rows of the table, or the refusal of its first fault.
 pub(crate) fn table_rows(alloc: Global, checked: &Checked, table: &[u8]) -> Result<Rows, JobEnd>
-    requires within { length table.now ≤ INPUT_BOUND }
+    requires within { length table.now ≤ INPUT_LIMIT }
     ensures tells { Tells plain_rows (outcomes.table_rows checked.now table.now) result }
     ensures columns { IfOk result (λ rows. HasColumnsOf checked.now (plain_rows rows)) }
     ensures few { IfOk result (λ rows. rows.count ≤ ROW_LIMIT) }

@@ -8,7 +8,7 @@ use Rattle.std.specs.Option.{option_or}
 use Rattle.std.specs.Prelude.{IfSome}
 use Rattle.std.proofs.lemmas.Bool.Decides.{nat_tests}
 use Rattle.std.proofs.lemmas.Option.{same_Some, IfSome_then}
-use Rattle.gta_spec.specs.declared.limits.TheConstants.{ROW_LIMIT}
+use Rattle.gta_spec.specs.Versions.{row_limit}
 use Rattle.gta_spec.specs.declared.parts.ColumnItem.{ColumnItem}
 use Rattle.gta_rows.specs.declared.fault.RowsFault.{RowsFault}
 use Rattle.gta_rows.specs.declared.fault.RowsFault.TheVariants.{TooMany}
@@ -25,62 +25,64 @@ pub moved : (o p : Option RowsFault) (end : RowsFault) → ((e : RowsFault) → 
 moved o p end go is = IfSome_then (fault_in end) is go
 
 -- a refusal of the header
-pub under_header : (items : List ColumnItem) (header : Record) (records : List Record) (fault : RowsFault)
+pub under_header : (version : ℕ) (items : List ColumnItem) (header : Record) (records : List Record) (fault : RowsFault)
     → Stops (option_or (missing header items) (twice header items)) fault
-    → Stops (records_fault items (header ∷ records)) fault
+    → Stops (records_fault version items (header ∷ records)) fault
 unfolding records_fault
-under_header items header records fault = moved _ _ fault (λ e is. by (missing header items) (twice header items) is)
+under_header version items header records fault = moved _ _ fault (λ e is. by (missing header items) (twice header items) is)
   where
     by : {e : RowsFault} (o p : Option RowsFault) → option_or o p ≡ Some e
-        → option_or o (option_or p (fault_behind header items records)) ≡ Some e
+        → option_or o (option_or p (fault_behind version header items records)) ≡ Some e
     by (Some x) p is = is
     by None (Some x) is = is
     by None None is = cc is
 
 -- a refusal of the records
-whole_fault : (items : List ColumnItem) (header : Record) (records : List Record)
+whole_fault : (version : ℕ) (items : List ColumnItem) (header : Record) (records : List Record)
     → missing header items ≡ None → twice header items ≡ None
-    → records_fault items (header ∷ records) ≡ fault_behind header items records
+    → records_fault version items (header ∷ records) ≡ fault_behind version header items records
 unfolding records_fault
-whole_fault items header records none_missing none_twice = rw (none_missing, none_twice) refl
+whole_fault version items header records none_missing none_twice = rw (none_missing, none_twice) refl
 
-pub under_lengths : (items : List ColumnItem) (header : Record) (records : List Record) (width : ℕ)
+pub under_lengths : (version : ℕ) (items : List ColumnItem) (header : Record) (records : List Record) (width : ℕ)
     (fault : RowsFault)
     → missing header items ≡ None → twice header items ≡ None → width ≡ length header
-    → Stops (wrong_length width records) fault → Stops (records_fault items (header ∷ records)) fault
+    → Stops (wrong_length width records) fault → Stops (records_fault version items (header ∷ records)) fault
 unfolding fault_behind
-under_lengths items header records width fault none_missing none_twice wide =
-    moved _ _ fault (λ e is. whole_fault items header records none_missing none_twice
+under_lengths version items header records width fault none_missing none_twice wide =
+    moved _ _ fault (λ e is. whole_fault version items header records none_missing none_twice
     ∙ ap (λ (o : Option RowsFault). option_or o
-    (option_or (no_cell items (first_bad_cell (places header items) records)) (too_many (length records))))
+    (option_or (no_cell items (first_bad_cell (places header items) records)) (too_many version (length records))))
     (ap (λ (n : ℕ). wrong_length n records) (sym wide) ∙ is))
 
 -- with all lengths right, the fault is that of the cells or the number of rows
-pub cells_fault : (items : List ColumnItem) (header : Record) (records : List Record) (width : ℕ)
+pub cells_fault : (version : ℕ) (items : List ColumnItem) (header : Record) (records : List Record) (width : ℕ)
     (bad : Option (ℕ × ℕ)) (count : ℕ)
     → missing header items ≡ None → twice header items ≡ None → width ≡ length header
     → wrong_length width records ≡ None → bad ≡ first_bad_cell (places header items) records → count ≡ length records
-    → records_fault items (header ∷ records) ≡ option_or (no_cell items bad) (too_many count)
+    → records_fault version items (header ∷ records) ≡ option_or (no_cell items bad) (too_many version count)
 unfolding fault_behind
-cells_fault items header records width bad count none_missing none_twice wide lengths is_bad is_count =
-    whole_fault items header records none_missing none_twice
+cells_fault version items header records width bad count none_missing none_twice wide lengths is_bad is_count =
+    whole_fault version items header records none_missing none_twice
     ∙ ap (λ (o : Option RowsFault). option_or o
-    (option_or (no_cell items (first_bad_cell (places header items) records)) (too_many (length records))))
+    (option_or (no_cell items (first_bad_cell (places header items) records)) (too_many version (length records))))
     (ap (λ (n : ℕ). wrong_length n records) (sym wide) ∙ lengths)
-    ∙ ap (λ (o : Option (ℕ × ℕ)). option_or (no_cell items o) (too_many (length records))) (sym is_bad)
-    ∙ ap (λ (n : ℕ). option_or (no_cell items bad) (too_many n)) (sym is_count)
+    ∙ ap (λ (o : Option (ℕ × ℕ)). option_or (no_cell items o) (too_many version (length records))) (sym is_bad)
+    ∙ ap (λ (n : ℕ). option_or (no_cell items bad) (too_many version n)) (sym is_count)
 
-pub few_rows : (count : ℕ) → count ≤ ROW_LIMIT → too_many count ≡ None
-few_rows count few = by (nat_lt ROW_LIMIT count) (grind (arith, nat_tests))
+pub few_rows : (version count : ℕ) → count ≤ row_limit version → too_many version count ≡ None
+few_rows version count few = by (nat_lt (row_limit version) count) (grind (arith, nat_tests))
   where
-    by : (b : Bool) → b ≡ false → (if b then Some TooMany else None) ≡ None
+    by : (b : Bool) → b ≡ false → (if b then Some (TooMany (row_limit version)) else None) ≡ None
     by true e = cc e
     by false e = refl
 
-pub many_rows : (count : ℕ) → ROW_LIMIT < count → too_many count ≡ Some TooMany
-many_rows count many = by (nat_lt ROW_LIMIT count) (grind (arith, nat_tests))
+pub many_rows : (version count : ℕ) → row_limit version < count
+    → too_many version count ≡ Some (TooMany (row_limit version))
+many_rows version count many = by (nat_lt (row_limit version) count) (grind (arith, nat_tests))
   where
-    by : (b : Bool) → b ≡ true → (if b then Some TooMany else None) ≡ Some TooMany
+    by : (b : Bool) → b ≡ true
+        → (if b then Some (TooMany (row_limit version)) else None) ≡ Some (TooMany (row_limit version))
     by true e = refl
     by false e = cc e
 

@@ -1,5 +1,5 @@
 -- The rows of a table tell its outcome.
-use Rattle.std.proofs.Common.{◌≡◌, ℕ, ◌+◌, ◌-◌, ℤ, List, length, Option, None, Ok, sym, ap, ◌∙◌, arith}
+use Rattle.std.proofs.Common.{◌≡◌, ℕ, ◌-◌, ℤ, List, length, Option, None, Ok, sym, ap, ◌∙◌, arith}
 use Rattle.outcome_kit.specs.Outcome.{unless}
 use Rattle.gta_spec.specs.declared.parts.ColumnItem.{ColumnItem}
 use Rattle.gta_checked.specs.declared.rows.Rows.{Rows}
@@ -16,5 +16,5 @@ module _ (items : List ColumnItem) (bytes : List ℕ) (rows : Rows) (table : IsT
       ∙ ap (λ w. of (length (table_records bytes) - 1) w rows.cells.items) table.columns
       ∙ ap (of (length (table_records bytes) - 1) (length items)) table.cells
 
-  pub table-tells : table_fault items bytes ≡ None → table_outcome items bytes ≡ Ok (plain_rows rows)
-  table-tells none = ap (λ (o : Option RowsFault). unless o (Ok (rows_of items bytes))) none ∙ ap Ok (sym the_rows)
+  pub table-tells : (version : ℕ) → table_fault version items bytes ≡ None → table_outcome version items bytes ≡ Ok (plain_rows rows)
+  table-tells version none = ap (λ (o : Option RowsFault). unless o (Ok (rows_of items bytes))) none ∙ ap Ok (sym the_rows)

@@ -10,7 +10,7 @@ use Rattle.std.specs.Str.{bytes_eq}
 use Rattle.csv.specs.Reading.{default_config, records, strip_bom}
 use Rattle.outcome_kit.specs.Outcome.{unless}
 use Rattle.gta_text.specs.Text.{mark_length}
-use Rattle.gta_spec.specs.declared.limits.TheConstants.{ROW_LIMIT}
+use Rattle.gta_spec.specs.Versions.{row_limit}
 use Rattle.gta_spec.specs.declared.parts.ColumnItem.{ColumnItem}
 use Rattle.gta_checked.specs.declared.rows.Rows.{Rows}
 use Rattle.gta_checked.specs.PlainRows.{PlainRows}
@@ -73,26 +73,28 @@ column_name items column = slice_index_or (map (λ item. item.name) items) colum
 abbrev pub no_cell : List ColumnItem → Option (ℕ × ℕ) → Option RowsFault
 no_cell items bad = option_map (λ at. Field at.0 (column_name items at.1)) bad
 
-abbrev pub too_many : ℕ → Option RowsFault
-too_many count = if nat_lt ROW_LIMIT count then Some TooMany else None
+-- more rows than the version allows
+abbrev pub too_many : ℕ → ℕ → Option RowsFault
+too_many version count =
+    if nat_lt (row_limit version) count then Some (TooMany (row_limit version)) else None
 
 -- the first fault of the records behind the header, each looked for over all of them
-unfoldable pub fault_behind : Record → List ColumnItem → List Record → Option RowsFault
-fault_behind header items records =
+unfoldable pub fault_behind : ℕ → Record → List ColumnItem → List Record → Option RowsFault
+fault_behind version header items records =
     option_or (wrong_length (length header) records)
     (option_or (no_cell items (first_bad_cell (places header items) records))
-    (too_many (length records)))
+    (too_many version (length records)))
 
 -- the first fault of the records, the first of which is the header
-unfoldable pub records_fault : List ColumnItem → List Record → Option RowsFault
-records_fault items [] = Some NoHeader
-records_fault items (header ∷ records) =
+unfoldable pub records_fault : ℕ → List ColumnItem → List Record → Option RowsFault
+records_fault version items [] = Some NoHeader
+records_fault version items (header ∷ records) =
     option_or (missing header items)
-    (option_or (twice header items) (fault_behind header items records))
+    (option_or (twice header items) (fault_behind version header items records))
 
--- the first fault of a table, or none
-abbrev pub table_fault : List ColumnItem → List ℕ → Option RowsFault
-table_fault items bytes = records_fault items (table_records bytes)
+-- the first fault of a table in a version, or none
+abbrev pub table_fault : ℕ → List ColumnItem → List ℕ → Option RowsFault
+table_fault version items bytes = records_fault version items (table_records bytes)
 
 -- the cells of the columns, record by record
 unfoldable pub cells_of : List ℕ → List Record → List ℤ
@@ -120,8 +122,8 @@ rows_of items bytes = record {
 }
 
 -- the rows of a table, unless it has a fault
-abbrev pub table_outcome : List ColumnItem → List ℕ → Result PlainRows RowsFault
-table_outcome items bytes = unless (table_fault items bytes) (Ok (rows_of items bytes))
+abbrev pub table_outcome : ℕ → List ColumnItem → List ℕ → Result PlainRows RowsFault
+table_outcome version items bytes = unless (table_fault version items bytes) (Ok (rows_of items bytes))
 
 -- the fault that an end tells of; want of memory is none
 abbrev pub fault_in : RowsFault → Option RowsFault

@@ -20,8 +20,8 @@ pub enum RowsFault {
     Length { row: u32, fields: u32, header: u32 },
     /// The field of this column in this row is no cell.
     Field { row: u32, column: Name },
-    /// There are more rows than a table may have.
-    TooMany,
+    /// There are more rows than a table of this version may have, which is the limit.
+    TooMany { limit: u32 },
     /// Memory was wanting. A fault of the reader under `csv` is answered so too; bytes in memory
     /// have none.
     Memory,

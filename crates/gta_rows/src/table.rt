@@ -21,7 +21,7 @@ use crate::header::places_of;
 use crate::reading::{next_record, reader_of};
 use csv::{ByteRecord, Reader};
 use gta_checked::{Checked, Rows};
-use gta_spec::{ColumnItem, ROW_LIMIT};
+use gta_spec::{ColumnItem, row_limit};
 use gta_text::Name;
 use std::alloc::Global;
 
@@ -33,7 +33,7 @@ use std::alloc::Global;
 /// variants is answered, each looked for over all records.
 pub fn read_rows(alloc: Global, checked: &Checked, bytes: &[u8]) -> Result<Rows, RowsFault>
     requires { length bytes.now ≤ INPUT_BOUND }
-    ensures tells { Tells fault_in plain_rows (table_outcome checked.now.columns bytes.now) result }
+    ensures tells { Tells fault_in plain_rows (table_outcome checked.now.version checked.now.columns bytes.now) result }
     ensures table { IfOk result (IsTableOf checked.now.columns bytes.now) }
 {
     let mut reader = reader_of(alloc, without_mark(bytes));
@@ -41,7 +41,8 @@ pub fn read_rows(alloc: Global, checked: &Checked, bytes: &[u8]) -> Result<Rows,
     if !next_record(&mut reader, &mut header)? {
         return Err(RowsFault::NoHeader);
     }
-    let rows = rows_under(alloc, checked.columns().as_slice(), &header, &mut reader)?;
+    let items = checked.columns().as_slice();
+    let rows = rows_under(alloc, *checked.version(), items, &header, &mut reader)?;
     Ok(rows)
 }
 
@@ -58,6 +59,7 @@ fn without_mark(bytes: &[u8]) -> &[u8]
 /// The rows that are left under a header.
 fn rows_under(
     alloc: Global,
+    version: u8,
     items: &[ColumnItem],
     header: &ByteRecord,
     reader: &mut Reader<&[u8]>,
@@ -71,16 +73,16 @@ fn rows_under(
     ensures cells { IfOk result (λ rows. rows.cells.items
         ≡ cells_in items.now (trimmed_fields header.now ∷ records_left reader.old)) }
     ensures tells { let records = trimmed_fields header.now ∷ records_left reader.old in
-        Passes fault_in (records_fault items.now records) result }
+        Passes fault_in (records_fault version items.now records) result }
 {
     let columns = places_of(alloc, items, header)?;
     let body = read_body(alloc, columns.as_slice(), header.len(), reader)?;
-    let rows = rows_of(alloc, items, body)?;
+    let rows = rows_of(alloc, version, items, body)?;
     Ok(rows)
 }
 
 /// The rows, where each place has a cell and they are not too many.
-fn rows_of(alloc: Global, items: &[ColumnItem], body: Body) -> Result<Rows, RowsFault>
+fn rows_of(alloc: Global, version: u8, items: &[ColumnItem], body: Body) -> Result<Rows, RowsFault>
     requires few_columns { length items.now ≤ COLUMN_LIMIT }
     requires known { IfSome body.bad (λ at. at.1 < length items.now) }
     requires whole { body.bad ≡ None → body.count ≤ ROW_LIMIT
@@ -91,14 +93,15 @@ fn rows_of(alloc: Global, items: &[ColumnItem], body: Body) -> Result<Rows, Rows
     ensures cells { IfOk result (λ rows. rows.cells ≡ body.cells) }
     ensures good { OnOk result (body.bad ≡ None) }
     ensures few { OnOk result (body.count ≤ ROW_LIMIT) }
-    ensures tells { Passes fault_in (option_or (no_cell items.now body.bad) (too_many body.count)) result }
+    ensures tells { Passes fault_in (option_or (no_cell items.now body.bad) (too_many version body.count)) result }
 {
     if let Some((row, column)) = body.bad {
         let column = Name::of(alloc, items[column as usize].name.bytes())?;
         return Err(RowsFault::Field { row, column });
     }
-    if body.count > ROW_LIMIT {
-        return Err(RowsFault::TooMany);
+    let limit = row_limit(version);
+    if body.count > limit {
+        return Err(RowsFault::TooMany { limit });
     }
     Ok(Rows {
         count: body.count,

@@ -18,7 +18,7 @@ use Rattle.report_text.specs.declared.refusal.Refusal.TheVariants.{NotSquare, No
 use Rattle.report_text.specs.declared.refusal.Refusal.TheVariants.{ColumnMissing, ColumnTwice}
 use Rattle.report_text.specs.declared.refusal.Refusal.TheVariants.{Length, Field, TooMany}
 use Rattle.report_text.specs.declared.refusal.Refusal.TheVariants.{Negative, Heavy, Keys}
-use Rattle.report_text.specs.declared.refusal.Refusal.TheVariants.{Size, ListSize, Input}
+use Rattle.report_text.specs.declared.refusal.Refusal.TheVariants.{Size, ListSize, Input, Unbuilt}
 
 -- what follows a count: at the cap it stands for more, too
 abbrev pub cap_text : ℕ → List ℕ
@@ -159,6 +159,7 @@ fault_text (NotAssociative table a b c) =
     refused 27 (of_table table (codes ": not associative at " ++ triple_text a b c))
 fault_text (NotSquare table element) =
     refused 28 (of_table table (codes ": not square at " ++ element))
+fault_text Unbuilt = refused 1 (codes "not built yet")
 fault_text NoHeader = refused 31 (codes "no header")
 fault_text (ColumnMissing column) = refused 32 (of_column column (codes " missing"))
 fault_text (ColumnTwice column) = refused 33 (of_column column (codes " twice"))
@@ -168,11 +169,11 @@ fault_text (Length row fields header) =
 fault_text (Field row column) =
     refused 35 (at_row row (codes ", column " ++ (column
     ++ codes ": not a whole number within 4611686018427387903")))
-fault_text TooMany = refused 36 (codes "more than 100000 rows")
+fault_text (TooMany limit) = refused 36 (codes "more than " ++ (decimal limit ++ codes " rows"))
 fault_text (Negative test row label value) =
     refused 40 (at_test test (at_row row (labelled label (value_text value))))
 fault_text (Heavy row) = refused 41 (at_row row (codes ": weight total past 4611686018427387903"))
 fault_text (Keys keys) = refused 42 (decimal keys ++ codes " keys past 8192")
 fault_text (Size size) = refused 43 (codes "size " ++ (decimal size ++ codes " past 67108864"))
 fault_text ListSize = refused 44 (codes "too many candidates to list")
-fault_text Input = refused 45 (codes "input past 16777216 bytes")
+fault_text (Input limit) = refused 45 (codes "input past " ++ (decimal limit ++ codes " bytes"))

@@ -34,6 +34,7 @@ pub fn fault_line(alloc: Global, refusal: &Refusal) -> Result<Vec<u8>, AllocErro
         } => unit_line(alloc, table, element, *left),
         Refusal::NotAssociative { table, a, b, c } => triple_line(alloc, table, a, b, c),
         Refusal::NotSquare { table, element } => square_line(alloc, table, element),
+        Refusal::Unbuilt => refused(alloc, 1, b"not built yet"),
         Refusal::NoHeader => refused(alloc, 31, b"no header"),
         Refusal::ColumnMissing { column } => column_line(alloc, 32, column, b" missing"),
         Refusal::ColumnTwice { column } => column_line(alloc, 33, column, b" twice"),
@@ -43,7 +44,7 @@ pub fn fault_line(alloc: Global, refusal: &Refusal) -> Result<Vec<u8>, AllocErro
             header,
         } => length_line(alloc, *row, *fields, *header),
         Refusal::Field { row, column } => field_line(alloc, *row, column),
-        Refusal::TooMany => refused(alloc, 36, b"more than 100000 rows"),
+        Refusal::TooMany { limit } => rows_line(alloc, *limit),
         Refusal::Negative {
             test,
             row,
@@ -54,7 +55,7 @@ pub fn fault_line(alloc: Global, refusal: &Refusal) -> Result<Vec<u8>, AllocErro
         Refusal::Keys { keys } => keys_line(alloc, *keys),
         Refusal::Size { size } => size_line(alloc, *size),
         Refusal::ListSize => refused(alloc, 44, b"too many candidates to list"),
-        Refusal::Input => refused(alloc, 45, b"input past 16777216 bytes"),
+        Refusal::Input { limit } => input_line(alloc, *limit),
     }
 }
 
@@ -243,4 +244,18 @@ fn size_line(alloc: Global, size: u64) -> Result<Vec<u8>, AllocError>
 {
     let text = format!(in alloc; "size {size} past 67108864")?;
     refused(alloc, 43, text.as_bytes())
+}
+
+fn rows_line(alloc: Global, limit: u32) -> Result<Vec<u8>, AllocError>
+    ensures { IfOk result (λ line. line.items ≡ fault_text (Refusal.TooMany limit)) }
+{
+    let text = format!(in alloc; "more than {limit} rows")?;
+    refused(alloc, 36, text.as_bytes())
+}
+
+fn input_line(alloc: Global, limit: u32) -> Result<Vec<u8>, AllocError>
+    ensures { IfOk result (λ line. line.items ≡ fault_text (Refusal.Input limit)) }
+{
+    let text = format!(in alloc; "input past {limit} bytes")?;
+    refused(alloc, 45, text.as_bytes())
 }

@@ -71,6 +71,8 @@ pub enum Refusal {
         table: Name,
         element: Name,
     },
+    /// Several totals are asked for, one after the other, which isn't built yet.
+    Unbuilt,
     /// The table has no record.
     NoHeader,
     /// No field of the header is that of the column.
@@ -92,8 +94,10 @@ pub enum Refusal {
         row: u32,
         column: Name,
     },
-    /// There are more than 100000 rows.
-    TooMany,
+    /// There are more rows than this limit, that of the version.
+    TooMany {
+        limit: u32,
+    },
     /// The test compares a sum, and the value that it adds for this row is negative. The label is
     /// there where the rows get labels.
     Negative {
@@ -116,6 +120,8 @@ pub enum Refusal {
     },
     /// There are too many candidates to list.
     ListSize,
-    /// The input has more than 16777216 bytes.
-    Input,
+    /// The input has more bytes than this limit, that of the version.
+    Input {
+        limit: u32,
+    },
 }

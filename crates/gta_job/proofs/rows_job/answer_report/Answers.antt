@@ -4,7 +4,7 @@ use Rattle.report_text.specs.Texts.{IsLabelled}
 use Rattle.gta_checked.specs.PlainRows.{PlainRows}
 use Rattle.gta_checked.specs.Plain.{PlainChecked}
 use Rattle.gta_checked.specs.declared.resolved.Goal.{Goal}
-use Rattle.gta_checked.specs.declared.resolved.Goal.TheVariants.{Count, Any, Max, Min, Best}
+use Rattle.gta_checked.specs.declared.resolved.Goal.TheVariants.{Count, Any, Max, Min, Best, Ranked}
 use Rattle.gta_job.specs.Answers.{answer_by}
 use Rattle.gta_job.proofs.Labelled.{best-labelled}
 use Rattle.gta_job.proofs.rows_job.answer_report.Goals as goal

@@ -18,7 +18,7 @@ returns-then-not-branch-clause-tells c =
     let whole : table_records c.args.bytes.now ≡ records_left c.reader_of-reader.result =
     sym (rw c.without_mark.ensures.bytes at c.reader_of-reader.ensures.records) in
     ap (λ (o : Option RowsFault). unless o (Ok (rows_of items c.args.bytes.now)))
-    (ap (records_fault items) (whole ∙ c.in_ok-next_record.ensures.end c.if-not-branch.true))
+    (ap (records_fault c.args.checked.now.version items) (whole ∙ c.in_ok-next_record.ensures.end c.if-not-branch.true))
 
 pub returns-in_err-rows-clause-tells : goal.returns-in_err-rows-clause-tells
 unfolding table_records
@@ -29,13 +29,13 @@ returns-in_err-rows-clause-tells c =
     let whole : table_records bytes ≡ trimmed_fields c.next_record.new.row ∷ records_left c.next_record.new.reader =
     sym (rw c.without_mark.ensures.bytes at c.reader_of-reader.ensures.records)
     ∙ c.in_ok-next_record.ensures.next c.if-not-branch.false in
-    let items : c.as_slice.result.now ≡ declared = c.as_slice.ensures.value ∙ c.columns.ensures.columns in
-    let stops : Stops (table_fault declared bytes) fault =
-    subst (λ (xs : List ColumnItem). Stops (table_fault xs bytes) fault) items
-    (subst (λ (rows : List Record). Stops (records_fault c.as_slice.result.now rows) fault) (sym whole)
-    c.in_err-rows.ensures.tells) in
-    let ends : Carries (table_outcome declared bytes) (fault_in fault) =
-    unless-Carries (table_fault declared bytes) (Ok (rows_of declared bytes)) (fault_in fault) stops in
+    let items : c.as_slice-items.result.now ≡ declared = c.as_slice-items.ensures.value ∙ c.columns.ensures.columns in
+    let stops : Stops (table_fault c.args.checked.now.version declared bytes) fault =
+    subst (λ (xs : List ColumnItem). Stops (table_fault c.args.checked.now.version xs bytes) fault) items
+    (subst (λ (rows : List Record). Stops (records_fault c.args.checked.now.version c.as_slice-items.result.now rows) fault) (sym whole)
+    (rw c.version.ensures at c.in_err-rows.ensures.tells)) in
+    let ends : Carries (table_outcome c.args.checked.now.version declared bytes) (fault_in fault) =
+    unless-Carries (table_fault c.args.checked.now.version declared bytes) (Ok (rows_of declared bytes)) (fault_in fault) stops in
     search rules
 
 pub returns : goal.returns
@@ -46,14 +46,16 @@ returns c =
     let whole : table_records c.args.bytes.now ≡ records =
     sym (rw c.without_mark.ensures.bytes at c.reader_of-reader.ensures.records)
     ∙ c.in_ok-next_record.ensures.next c.if-not-branch.false in
-    let items : c.as_slice.result.now ≡ declared = c.as_slice.ensures.value ∙ c.columns.ensures.columns in
+    let items : c.as_slice-items.result.now ≡ declared = c.as_slice-items.ensures.value ∙ c.columns.ensures.columns in
     let table : IsTableOf declared c.args.bytes.now c.in_ok-rows.rows = record {
       count = omega (arith, c.in_ok-rows.ensures.count, ap (λ (rows : List Record). length rows) whole);
       columns = c.in_ok-rows.ensures.columns ∙ ap (λ (xs : List ColumnItem). length xs) items;
       cells = c.in_ok-rows.ensures.cells ∙ ap (λ (xs : List ColumnItem). cells_in xs records) items
           ∙ ap (cells_in declared) (sym whole);
     } in
-    let none : table_fault declared c.args.bytes.now ≡ None =
-    ap (records_fault declared) whole ∙ ap (λ (xs : List ColumnItem). records_fault xs records) (sym items)
-    ∙ c.in_ok-rows.ensures.tells in
-    record { tells = table-tells declared c.args.bytes.now c.in_ok-rows.rows table none; table = table }
+    let version = c.args.checked.now.version in
+    let none : table_fault version declared c.args.bytes.now ≡ None =
+    ap (records_fault version declared) whole
+    ∙ ap (λ (xs : List ColumnItem). records_fault version xs records) (sym items)
+    ∙ (rw c.version.ensures at c.in_ok-rows.ensures.tells) in
+    record { tells = table-tells declared c.args.bytes.now c.in_ok-rows.rows table version none; table = table }

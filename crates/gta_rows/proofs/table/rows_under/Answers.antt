@@ -1,4 +1,4 @@
-use Rattle.std.proofs.Common.{◌≡◌, ◌∙◌, ◌∷◌, List, ℕ, Option, length, rules, sym, ap, subst}
+use Rattle.std.proofs.Common.{◌≡◌, ◌∙◌, ◌∷◌, List, ℕ, length, rules, sym, subst}
 use Rattle.std.proofs.lemmas.List.{length-map}
 use Rattle.std.specs.Option.{option_or}
 use Rattle.csv.specs.Records.{fields_of}
@@ -14,9 +14,9 @@ use Rattle.gta_rows.proofs.table.rows_under.Goals as goal
 
 pub returns-in_err-columns-clause-tells : goal.returns-in_err-columns-clause-tells
 returns-in_err-columns-clause-tells c =
-    let is : Stops (records_fault c.args.items.now
+    let is : Stops (records_fault c.args.version c.args.items.now
     (trimmed_fields c.args.header.now ∷ records_left c.args.reader.now)) c.in_err-columns.field-0.0 =
-    under_header c.args.items.now (trimmed_fields c.args.header.now)
+    under_header c.args.version c.args.items.now (trimmed_fields c.args.header.now)
     (records_left c.args.reader.now) c.in_err-columns.field-0.0
     c.in_err-columns.ensures.tells in
     search rules
@@ -25,9 +25,9 @@ pub returns-in_err-body-clause-tells : goal.returns-in_err-body-clause-tells
 returns-in_err-body-clause-tells c =
     let wide : c.len.result ≡ length (trimmed_fields c.args.header.now) = c.len.ensures
     ∙ sym (length-map (fields_of c.args.header.now) trimmed) in
-    let is : Stops (records_fault c.args.items.now
+    let is : Stops (records_fault c.args.version c.args.items.now
     (trimmed_fields c.args.header.now ∷ records_left c.args.reader.now)) c.in_err-body.field-0.0 =
-    under_lengths c.args.items.now (trimmed_fields c.args.header.now)
+    under_lengths c.args.version c.args.items.now (trimmed_fields c.args.header.now)
     (records_left c.args.reader.now) c.len.result c.in_err-body.field-0.0
     c.in_ok-columns.ensures.none_missing c.in_ok-columns.ensures.none_twice wide c.in_err-body.ensures.tells in
     search rules
@@ -48,12 +48,12 @@ returns-in_err-rows-clause-tells c =
     ∙ sym (length-map (fields_of c.args.header.now) trimmed) in
     let body = subst (λ (columns : List ℕ). IsBodyOf columns (records_left c.args.reader.now) c.in_ok-body.body)
     (c.as_slice.ensures.value ∙ c.in_ok-columns.ensures.places) c.in_ok-body.ensures.body in
-    let is : Stops (records_fault c.args.items.now
+    let is : Stops (records_fault c.args.version c.args.items.now
     (trimmed_fields c.args.header.now ∷ records_left c.args.reader.now)) c.in_err-rows.field-0.0 =
-    moved (option_or (no_cell c.args.items.now c.in_ok-body.body.bad) (too_many c.in_ok-body.body.count))
-    (records_fault c.args.items.now
+    moved (option_or (no_cell c.args.items.now c.in_ok-body.body.bad) (too_many c.args.version c.in_ok-body.body.count))
+    (records_fault c.args.version c.args.items.now
     (trimmed_fields c.args.header.now ∷ records_left c.args.reader.now)) c.in_err-rows.field-0.0
-    (λ e named. cells_fault c.args.items.now header
+    (λ e named. cells_fault c.args.version c.args.items.now header
     (records_left c.args.reader.now) c.len.result c.in_ok-body.body.bad c.in_ok-body.body.count
     c.in_ok-columns.ensures.none_missing c.in_ok-columns.ensures.none_twice wide
     c.in_ok-body.ensures.tells body.bad body.count ∙ named)
@@ -74,7 +74,7 @@ returns-clause-tells c =
     ∙ sym (length-map (fields_of c.args.header.now) trimmed) in
     let body = subst (λ (columns : List ℕ). IsBodyOf columns (records_left c.args.reader.now) c.in_ok-body.body)
     (c.as_slice.ensures.value ∙ c.in_ok-columns.ensures.places) c.in_ok-body.ensures.body in
-    cells_fault c.args.items.now header
+    cells_fault c.args.version c.args.items.now header
     (records_left c.args.reader.now) c.len.result c.in_ok-body.body.bad c.in_ok-body.body.count
     c.in_ok-columns.ensures.none_missing c.in_ok-columns.ensures.none_twice wide
     c.in_ok-body.ensures.tells body.bad body.count

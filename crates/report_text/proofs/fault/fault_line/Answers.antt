@@ -6,9 +6,3 @@ returns-in-Unknown c = rw c.in-Unknown.is c.named.ensures
 
 pub returns-in-SecondPart : goal.returns-in-SecondPart
 returns-in-SecondPart c = rw c.in-SecondPart.is c.named-in-SecondPart.ensures
-
-pub returns-in-TooMany : goal.returns-in-TooMany
-returns-in-TooMany c = rw c.in-TooMany.is c.refused-in-TooMany.ensures
-
-pub returns-in-Input : goal.returns-in-Input
-returns-in-Input c = rw c.in-Input.is c.refused-in-Input.ensures
