@@ -2,7 +2,7 @@
 use Rattle.std.proofs.Common.{◌≡◌, ℕ, ◌+◌, ◌<◌, ◌++◌, List, Option, Some, None, Err, Result, true, ap, refl, arith}
 use Rattle.std.proofs.lemmas.Bool.Decides.{nat_tests}
 use Rattle.std.proofs.lemmas.List.{length-append}
-use Rattle.std.specs.Prelude.{IfSome, length, nat_lt, if◌then◌else◌}
+use Rattle.std.specs.Prelude.{IfSome, length, nat_lt}
 use Rattle.gta_port.specs.Port.{ConsumesSome}
 use Rattle.gta_port.specs.declared.reading.ReadEnd.{ReadEnd}
 use Rattle.gta_port.specs.declared.reading.ReadEnd.TheVariants as read
@@ -17,13 +17,13 @@ use Rattle.gta_cli.specs.Causes.{Explains, ending_of_read}
 use Rattle.gta_cli.specs.Endings.{Failed, IsDrill, IsSteady, Stream, input_of}
 
 stops : {S T : Type 0} (bytes : List ℕ) (rest : Result S Refusal) (next : S → Result T Refusal)
-    → INPUT_LIMIT < length bytes → and_then (unless (input_refusal bytes) rest) next ≡ Err Input
+    → INPUT_LIMIT < length bytes → and_then (unless (input_refusal bytes) rest) next ≡ Err (Input INPUT_LIMIT)
 stops bytes rest next long =
     let past : nat_lt INPUT_LIMIT (length bytes) ≡ true = grind (arith, nat_tests) in
-    ap (λ past. and_then (unless (if past then Some Input else None) rest) next) past
+    rw past refl
 
 no_outcome : (command : Command) → (IsDrill command → ⊥) → (bytes : List ℕ) → INPUT_LIMIT < length bytes
-    → outcome command bytes ≡ Err Input
+    → outcome command bytes ≡ Err (Input INPUT_LIMIT)
 unfolding outcome report_outcome
 no_outcome (Run workers leaf) reads bytes long = stops bytes _ _ long
 no_outcome Show reads bytes long = stops bytes _ _ long
@@ -45,7 +45,7 @@ where_some (Some bytes) P Q goes holds = goes bytes holds
 
 too_long : (command : Command) → (IsDrill command → ⊥) → (old new : Option (List ℕ))
     → ConsumesSome old new (λ n. n ≡ INPUT_LIMIT + 1)
-    → IfSome (input_of command old) (λ bytes. outcome command bytes ≡ Err Input)
+    → IfSome (input_of command old) (λ bytes. outcome command bytes ≡ Err (Input INPUT_LIMIT))
 too_long (Run workers leaf) reads old new taken =
     where_some old _ _ (no_outcome (Run workers leaf) reads) (are_long old new taken)
 too_long Show reads old new taken = where_some old _ _ (no_outcome Show reads) (are_long old new taken)

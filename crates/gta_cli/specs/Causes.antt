@@ -7,6 +7,7 @@ use Rattle.gta_words.specs.declared.words.WordsFault.{WordsFault}
 use Rattle.gta_words.specs.declared.words.WordsFault.TheVariants as words
 use Rattle.report_text.specs.declared.refusal.Refusal.TheVariants.{Input}
 use Rattle.gta_job.specs.declared.job.JobEnd.{JobEnd}
+use Rattle.gta_job.specs.declared.job.TheConstants.{INPUT_LIMIT}
 use Rattle.gta_job.specs.declared.job.JobEnd.TheVariants as job
 use Rattle.gta_cli.specs.declared.ending.Ending.{Ending}
 use Rattle.gta_cli.specs.declared.ending.Ending.TheVariants.{Usage, Refused, ReadFault, Memory}
@@ -20,7 +21,7 @@ ending_of_words words.Memory = Memory
 -- what the end of a read ends with
 abbrev pub ending_of_read : ReadEnd → Ending
 ending_of_read read.ReadFault = ReadFault
-ending_of_read read.TooLong = Refused Input
+ending_of_read read.TooLong = Refused (Input INPUT_LIMIT)
 ending_of_read read.Memory = Memory
 
 -- what the end of a job ends with

@@ -50,7 +50,9 @@ impl From<ReadEnd> for Ending {
     fn from(end: ReadEnd) -> Ending {
         match end {
             ReadEnd::ReadFault => Ending::ReadFault,
-            ReadEnd::TooLong => Ending::Refused(Refusal::Input),
+            ReadEnd::TooLong => Ending::Refused(Refusal::Input {
+                limit: INPUT_LIMIT as u32,
+            }),
             ReadEnd::Memory => Ending::Memory,
         }
     }

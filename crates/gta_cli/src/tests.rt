@@ -10,6 +10,7 @@ mod commands;
 mod cuts;
 mod faults;
 mod folds;
+mod keep;
 mod shapes;
 mod specs;
 mod table;
@@ -209,21 +210,27 @@ fn words_that_are_no_command(rt: HostRuntime) -> Result<(), Fail> {
     Ok(())
 }
 
-// A job that is filled up with a comment to so many bytes.
+// A job of a version that is filled up with a comment to so many bytes.
 #[test]
 fn the_most_bytes(rt: HostRuntime) -> Result<(), Fail> {
-    let cases: [(u32, &[u8], &[u8]); 2] = [
-        (16_777_216, b"answer 7\n", b""),
-        (16_777_217, b"", b"refused 45: input past 16777216 bytes\n"),
+    let first: &[u8] = b"gta 1\ncolumns v\ngenerate sublists\naggregate max v\nrows\nv\n7\n";
+    let second: &[u8] = b"gta 2\ncolumns v\ngenerate sublists\naggregate max v\nrows\nv\n7\n";
+    let cases: [(&[u8], u32, &[u8], &[u8]); 6] = [
+        (first, 16_777_216, b"answer 7\n", b""),
+        (first, 16_777_217, b"", b"refused 45: input past 16777216 bytes\n"),
+        (first, 67_108_865, b"", b"refused 45: input past 67108864 bytes\n"),
+        (second, 16_777_217, b"answer 7\n", b""),
+        (second, 67_108_864, b"answer 7\n", b""),
+        (second, 67_108_865, b"", b"refused 45: input past 67108864 bytes\n"),
     ];
-    for (count, out, err) in cases {
-        let job = with_head(rt.alloc(), b"7\n")?;
-        let mut input = Vec::from_slice(rt.alloc(), b"# ")?;
+    for (job, count, out, err) in cases {
+        let mut input = Vec::with_capacity(rt.alloc(), count as usize)?;
+        input.extend_from_slice(b"# ")?;
         for _ in job.len() + 3..count as usize {
             input.push(b'x')?;
         }
         input.push(b'\n')?;
-        input.extend_from_slice(job.as_slice())?;
+        input.extend_from_slice(job)?;
         let ended = called(&rt, rt.alloc(), &["run"], input.as_slice(), SMOOTH)?;
         assert_eq!(rt; input.len(), count as usize);
         assert_eq!(rt; ended.out.as_slice(), out, "output at {count}");

@@ -121,15 +121,18 @@ fn headers_of_their_own(rt: HostRuntime) -> Result<(), Fail> {
     )
 }
 
-// The number of cells, each a 1 on a line of its own.
+// A version, and the number of cells, each a 1 on a line of its own.
 #[test]
 fn the_most_rows(rt: HostRuntime) -> Result<(), Fail> {
-    let cases: [(u32, &[u8], &[u8]); 2] = [
-        (100_000, b"answer 100001\n", b""),
-        (100_001, b"", b"refused 36: more than 100000 rows\n"),
+    let cases: [(&[u8], u32, &[u8], &[u8]); 4] = [
+        (b"gta 1", 100_000, b"answer 100001\n", b""),
+        (b"gta 1", 100_001, b"", b"refused 36: more than 100000 rows\n"),
+        (b"gta 2", 400_000, b"answer 400001\n", b""),
+        (b"gta 2", 400_001, b"", b"refused 36: more than 400000 rows\n"),
     ];
-    for (count, out, err) in cases {
-        let mut input = job_of(rt.alloc(), b"generate prefixes\naggregate count\n", b"")?;
+    for (version, count, out, err) in cases {
+        let mut input = Vec::from_slice(rt.alloc(), version)?;
+        input.extend_from_slice(b"\ncolumns v\ngenerate prefixes\naggregate count\nrows\nv\n")?;
         for _ in 0..count {
             input.extend_from_slice(b"1\n")?;
         }
