@@ -126,6 +126,8 @@ fn spec_of(alloc: Global, test: Test, goal: Goal) -> Result<Checked, AllocError>
     measures.push(steps(alloc)?)?;
     let mut tests = Vec::new(alloc);
     tests.push(test)?;
+    let mut named = Vec::new(alloc);
+    named.push(false)?;
     Ok(Checked::of(
         1,
         columns,
@@ -133,6 +135,8 @@ fn spec_of(alloc: Global, test: Test, goal: Goal) -> Result<Checked, AllocError>
         measures,
         Vec::new(alloc),
         tests,
+        named,
+        None,
         Shape::Assign,
         goal,
     ))

@@ -111,6 +111,8 @@ fn spec_with(alloc: Global, tables: Vec<Table>, tests: Vec<Test>) -> Result<Chec
     let mut measures = Vec::new(alloc);
     measures.push(plain(alloc)?)?;
     measures.push(turned(alloc)?)?;
+    let mut named = Vec::new(alloc);
+    named.resize(tests.len(), false)?;
     Ok(Checked::of(
         1,
         columns,
@@ -118,6 +120,8 @@ fn spec_with(alloc: Global, tables: Vec<Table>, tests: Vec<Test>) -> Result<Chec
         measures,
         tables,
         tests,
+        named,
+        None,
         Shape::Assign,
         Goal::Count,
     ))

@@ -141,7 +141,7 @@ fn faults_of_rows(rt: HostRuntime) -> Result<(), Fail> {
     let missing = Name::of(rt.alloc(), b"v")?;
     let twice = Name::of(rt.alloc(), b"v")?;
     let column = Name::of(rt.alloc(), b"price")?;
-    let cases: [(Refusal, &[u8]); 6] = [
+    let cases: [(Refusal, &[u8]); 7] = [
         (Refusal::NoHeader, b"refused 31: no header\n"),
         (
             Refusal::ColumnMissing { column: missing },
@@ -163,7 +163,11 @@ fn faults_of_rows(rt: HostRuntime) -> Result<(), Fail> {
             Refusal::Field { row: 0, column },
             b"refused 35: row 1, column price: not a whole number within 4611686018427387903\n",
         ),
-        (Refusal::TooMany, b"refused 36: more than 100000 rows\n"),
+        (
+            Refusal::TooMany { limit: 100000 },
+            b"refused 36: more than 100000 rows\n",
+        ),
+        (Refusal::Unbuilt, b"refused 1: not built yet\n"),
     ];
     for (refusal, line) in cases {
         let said = fault_line(rt.alloc(), &refusal)?;
@@ -217,7 +221,10 @@ fn faults_of_numbers(rt: HostRuntime) -> Result<(), Fail> {
             Refusal::ListSize,
             b"refused 44: too many candidates to list\n",
         ),
-        (Refusal::Input, b"refused 45: input past 16777216 bytes\n"),
+        (
+            Refusal::Input { limit: 67108864 },
+            b"refused 45: input past 67108864 bytes\n",
+        ),
     ];
     for (refusal, line) in cases {
         let said = fault_line(rt.alloc(), &refusal)?;

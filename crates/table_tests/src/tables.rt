@@ -2,7 +2,7 @@
 
 use gta_checked::{Checked, Goal, Rows};
 use gta_rows::{RowsFault, read_rows};
-use gta_spec::{COLUMN_LIMIT, ColumnItem, ROW_LIMIT};
+use gta_spec::{COLUMN_LIMIT, ColumnItem, FIRST_ROW_LIMIT};
 use gta_text::{INPUT_BOUND, Name};
 use shape_gen::Shape;
 use std::alloc::{AllocError, Global};
@@ -33,6 +33,8 @@ fn with_columns(alloc: Global, columns: &[(&[u8], &[u8])]) -> Result<Option<Chec
         Vec::new(alloc),
         Vec::new(alloc),
         Vec::new(alloc),
+        Vec::new(alloc),
+        None,
         Shape::Sublists,
         Goal::Count,
     )))
@@ -86,7 +88,7 @@ fn write_fault(out: &mut String, fault: &RowsFault) -> Result<(), Fail> {
             write!(out, "row {row} no cell")?;
             write_bytes(out, column.bytes())?;
         }
-        RowsFault::TooMany => out.push_str("too many")?,
+        RowsFault::TooMany { limit } => write!(out, "more than {limit}")?,
         RowsFault::Memory => out.push_str("memory")?,
     }
     Ok(())
@@ -160,14 +162,14 @@ fn tables_of_two_columns(rt: HostRuntime) -> Result<(), Fail> {
 #[test]
 fn as_many_rows_as_the_limit(rt: HostRuntime) -> Result<(), Fail> {
     let mut table = Vec::from_slice(rt.alloc(), b"v\n")?;
-    for _ in 0..ROW_LIMIT {
+    for _ in 0..FIRST_ROW_LIMIT {
         table.extend_from_slice(b"1\n")?;
     }
     let whole = read(rt.alloc(), &[(b"v", b"v")], table.as_slice())?;
     assert_eq!(rt; whole.as_str(), "100000 by 1:");
     table.extend_from_slice(b"1\n")?;
     let more = read(rt.alloc(), &[(b"v", b"v")], table.as_slice())?;
-    assert_eq!(rt; more.as_str(), "too many");
+    assert_eq!(rt; more.as_str(), "more than 100000");
     table.extend_from_slice(b"x\n")?;
     let bad = read(rt.alloc(), &[(b"v", b"v")], table.as_slice())?;
     assert_eq!(rt; bad.as_str(), "row 100001 no cell 118");

@@ -1,5 +1,5 @@
 //! Worked examples: a text, and how many parts it has or its refusal.
-use gta_syntax::{SpecFault, read_spec};
+use gta_syntax::{SpecFault, first_version, read_spec};
 use gta_text::INPUT_BOUND;
 use std::alloc::Global;
 use std::fmt::Write;
@@ -25,7 +25,7 @@ fn answer(alloc: Global, bytes: &[u8]) -> Result<Vec<u8>, Fail> {
 
 #[test]
 fn taken_texts(rt: HostRuntime) -> Result<(), Fail> {
-    let cases: [(&[u8], &[u8]); 23] = [
+    let cases: [(&[u8], &[u8]); 28] = [
         (b"gta 1\nrows\n", b"parts 0"),
         (b"# c\n\ngta 1 # d\r\n\nrows # e\nv\n1", b"parts 0"),
         (
@@ -61,6 +61,14 @@ fn taken_texts(rt: HostRuntime) -> Result<(), Fail> {
         (b"gta 1\naggregate max m\nrows", b"parts 1"),
         (b"gta 1\naggregate best 03 min m\nrows", b"parts 1"),
         (b"gta 1\nmeasure m=4611686018427387903\nrows", b"parts 1"),
+        (b"gta 1\ncolumns keep or not then\nrows", b"parts 1"),
+        (b"gta 2\ntest few=length<=1\nrows", b"parts 1"),
+        (b"gta 2\nkeep not(a or b)and c\nrows", b"parts 1"),
+        (b"gta 2\naggregate max a then min b\nrows", b"parts 1"),
+        (
+            b"gta 2\naggregate best 3 min a then min b then max c\nrows",
+            b"parts 1",
+        ),
     ];
     for (bytes, parts) in cases {
         let told = answer(rt.alloc(), bytes)?;
@@ -71,10 +79,10 @@ fn taken_texts(rt: HostRuntime) -> Result<(), Fail> {
 
 #[test]
 fn refusals(rt: HostRuntime) -> Result<(), Fail> {
-    let cases: [(&[u8], &[u8]); 40] = [
+    let cases: [(&[u8], &[u8]); 47] = [
         (b"", b"version 1"),
         (b"rows\n", b"version 1"),
-        (b"\n\n# c\n\ngta 2\nrows\n", b"version 5"),
+        (b"\n\n# c\n\ngta 3\nrows\n", b"version 5"),
         (b"gta 01\nrows\n", b"version 1"),
         (b"gta 1 1\nrows\n", b"version 1"),
         (b"gta\nrows\n", b"version 1"),
@@ -119,6 +127,13 @@ fn refusals(rt: HostRuntime) -> Result<(), Fail> {
         ),
         (b"gta 2\ncolumns v # \xc3\nrows\n", b"byte 2 13"),
         (b"gta 1\ncolumns v\x00\n", b"byte 2 10"),
+        (b"gta 1\ntest few = length <= 1\nrows\n", b"grammar 2"),
+        (b"gta 2\ncolumns keep\nrows\n", b"grammar 2"),
+        (b"gta 2\nkeep a b\nrows\n", b"grammar 2"),
+        (b"gta 2\nkeep a and\nrows\n", b"grammar 2"),
+        (b"gta 2\nkeep ()\nrows\n", b"grammar 2"),
+        (b"gta 2\naggregate max a then b\nrows\n", b"grammar 2"),
+        (b"gta 2\naggregate best 3 max a then\nrows\n", b"grammar 2"),
         (b"gta 1\n\x7f\nrows\n", b"byte 2 1"),
         (b"gta 1\ncolumns a\rb\nrows\n", b"byte 2 10"),
     ];
@@ -185,6 +200,27 @@ fn the_table_begins_behind_rows(rt: HostRuntime) -> Result<(), Fail> {
     for (bytes, place) in cases {
         let read = read_spec(rt.alloc(), bytes).ok().ok_or("it is read")?;
         assert_eq!(rt; read.rows_at, place, "at {bytes:?}");
+    }
+    Ok(())
+}
+
+// A text, and the version that its first line with tokens names.
+#[test]
+fn versions(rt: HostRuntime) -> Result<(), Fail> {
+    let cases: [(&[u8], Option<u8>); 8] = [
+        (b"gta 1\n", Some(1)),
+        (b"\xef\xbb\xbf# \xc3\n\n \tgta  2# c\r\nrows\n", Some(2)),
+        (b"gta 2", Some(2)),
+        (b"rows\ngta 2\n", None),
+        (b"gta 02\n", None),
+        (b"gta 2 \xc3\n", None),
+        (b"gta 3\n", None),
+        (b"", None),
+    ];
+    for (bytes, version) in cases {
+        if bytes.len() <= INPUT_BOUND {
+            assert_eq!(rt; first_version(rt.alloc(), bytes)?, version, "at {bytes:?}");
+        }
     }
     Ok(())
 }
