@@ -10,3 +10,4 @@ pub mod Generated
 pub mod Products
 pub mod ByNumber
 pub mod Accepted
+pub mod KeptBy

@@ -17,6 +17,13 @@ module _ {A B : Type 0} (f : A → B) (items : List A) (plains : List B) (same :
       let in_plains : i < length plains = omega (arith, sym (length-map items f) ∙ ap length same) in
       subst P (sym (item-at i x (f x) below is)) (all i (f x) in_plains)
 
+  -- what a function gives of all plain items, at i
+  pub image-at : {C : Type 0} (h : B → C) (i : ℕ) (x : A) (e : C) → i < length items → x ≡ get_or items i x
+      → h (f x) ≡ get_or (map h plains) i e
+  image-at h i x e below is =
+      let in_plains : i < length plains = omega (arith, sym (length-map items f) ∙ ap length same) in
+      ap h (item-at i x (f x) below is) ∙ sym (get_or-map h plains i (f x) e in_plains)
+
 pub case-within : (columns labels : ℕ) (cases items : List Case) (i : ℕ) (case : Case)
     → items ≡ cases → i < length items → case ≡ get_or items i case
     → All (IsCaseWithin columns labels) (map plain_case cases)

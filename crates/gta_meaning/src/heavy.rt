@@ -17,18 +17,18 @@ pub fn first_heavy(checked: &Checked, rows: &Rows) -> Option<u32>
     requires { HasColumnsOf checked.now (plain_rows rows.now) }
     ensures { result ≡ heavy.first_heavy checked.now (plain_rows rows.now) }
 {
-    let measure = goal_measure(*checked.goal())?;
+    let measure = goal_measure(checked.goal())?;
     first_past(checked, rows, measure)
 }
 
-/// The measure of an aggregate; None where it has none. Takes no memory.
-pub fn goal_measure(goal: Goal) -> Option<u32>
-    ensures { result ≡ heavy.goal_measure goal }
+/// The measure of an aggregate; None where it has none or several. Takes no memory.
+pub fn goal_measure(goal: &Goal) -> Option<u32>
+    ensures { result ≡ heavy.goal_measure goal.now }
 {
     match goal {
-        Goal::Count | Goal::Any => None,
-        Goal::Max(measure) | Goal::Min(measure) => Some(measure),
-        Goal::Best { measure, .. } => Some(measure),
+        Goal::Count | Goal::Any | Goal::Ranked { .. } => None,
+        Goal::Max(measure) | Goal::Min(measure) => Some(*measure),
+        Goal::Best { measure, .. } => Some(*measure),
     }
 }
 

@@ -14,6 +14,7 @@ mod numbered;
 mod passing;
 mod totals;
 mod values;
+mod verdicts;
 
 pub use candidate::{Candidate, label_count};
 pub use elements::{ElementSet, accepted_elements};
@@ -23,3 +24,4 @@ pub use listing::{ListFault, list_kept};
 pub use passing::passes;
 pub use totals::weight_of;
 pub use values::{VALUE_BOUND, compares, value_of};
+pub use verdicts::{Outcomes, verdict};

@@ -15,21 +15,50 @@ use crate::elements::ElementSet;
 use crate::folds::folded;
 use crate::totals::weight_of;
 use crate::values::compares;
+use crate::verdicts::{Outcomes, verdict};
 use gta_checked::{Checked, Pick, Rows, Test};
 use gta_spec::Check;
 
-/// Whether every test of the specification holds of the candidate. Takes no memory.
+/// Whether the candidate passes: whether every test holds of it, or the tests without a name and the expression that
+/// says what is kept. Takes no memory.
 pub fn passes(checked: &Checked, rows: &Rows, candidate: &Candidate) -> bool
     requires columns { HasColumnsOf checked.now (plain_rows rows.now) }
     requires in_range { IsInRangeOf checked.now (plain_rows rows.now) candidate.now.marks.items }
     ensures { result ≡ tests.passes checked.now (plain_rows rows.now) candidate.now.marks.items }
 {
-    for test in checked.tests() {
-        if !passes_test(checked, rows, candidate, test) {
-            return false;
+    let asked = Asked {
+        checked,
+        rows,
+        candidate,
+    };
+    verdict(checked, &asked)
+}
+
+/// The tests, asked of a candidate.
+#[derive(Drop)]
+struct Asked<'a> {
+    checked: &'a Checked,
+    rows: &'a Rows,
+    candidate: &'a Candidate,
+}
+
+impl<'a> Outcomes for Asked<'a> {
+    ghost use Rattle.gta_checked.specs.PlainRows.{plain_rows};
+    ghost use Rattle.gta_meaning.specs.InRange.{HasColumnsOf, IsInRangeOf};
+    ghost use Rattle.gta_meaning.specs.Tests.{outcomes};
+
+    ghost outcomes = { λ asked. outcomes asked.checked.now (plain_rows asked.rows.now)
+        asked.candidate.now.marks.items };
+
+    ghost is_within = { λ asked. HasColumnsOf asked.checked.now (plain_rows asked.rows.now)
+        × IsInRangeOf asked.checked.now (plain_rows asked.rows.now) asked.candidate.now.marks.items };
+
+    fn holds(&self, number: usize) -> bool {
+        match self.checked.tests().get(number) {
+            Some(test) => passes_test(self.checked, self.rows, self.candidate, test),
+            None => false,
         }
     }
-    true
 }
 
 fn passes_test(checked: &Checked, rows: &Rows, candidate: &Candidate, test: &Test) -> bool
@@ -65,13 +94,51 @@ pub(crate) fn passes_by(
     requires in_range { IsInRangeOf checked.now (plain_rows rows.now) candidate.now.marks.items }
     ensures { result ≡ tests.passes checked.now (plain_rows rows.now) candidate.now.marks.items }
 {
-    let tests = checked.tests();
-    for k in 0..tests.len() {
-        if !passes_test_by(checked, rows, &accepted[k], candidate, &tests[k]) {
-            return false;
+    let asked = AskedBy {
+        checked,
+        rows,
+        accepted,
+        candidate,
+    };
+    verdict(checked, &asked)
+}
+
+/// The tests, asked of a candidate by the sets of what they accept.
+#[derive(Drop)]
+struct AskedBy<'a> {
+    checked: &'a Checked,
+    rows: &'a Rows,
+    accepted: &'a [ElementSet],
+    candidate: &'a Candidate,
+}
+
+impl<'a> Outcomes for AskedBy<'a> {
+    ghost use Rattle.gta_checked.specs.PlainRows.{plain_rows};
+    ghost use Rattle.gta_meaning.specs.Elements.{AreAccepted};
+    ghost use Rattle.gta_meaning.specs.InRange.{HasColumnsOf, IsInRangeOf};
+    ghost use Rattle.gta_meaning.specs.Tests.{outcomes};
+
+    ghost outcomes = { λ asked. outcomes asked.checked.now (plain_rows asked.rows.now)
+        asked.candidate.now.marks.items };
+
+    ghost is_within = { λ asked. HasColumnsOf asked.checked.now (plain_rows asked.rows.now)
+        × AreAccepted asked.checked.now.tests asked.accepted.now
+        × IsInRangeOf asked.checked.now (plain_rows asked.rows.now) asked.candidate.now.marks.items };
+
+    fn holds(&self, number: usize) -> bool {
+        match self.checked.tests().get(number) {
+            Some(test) => {
+                passes_test_by(
+                    self.checked,
+                    self.rows,
+                    &self.accepted[number],
+                    self.candidate,
+                    test,
+                )
+            }
+            None => false,
         }
     }
-    true
 }
 
 fn passes_test_by(
