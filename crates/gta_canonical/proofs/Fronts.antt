@@ -1,5 +1,6 @@
 -- The text of pieces in front of others is their own text, and then that of the others.
-use Rattle.std.proofs.Common.{◌≡◌, ℕ, suc, Bool, true, false, List, [], ◌∷◌, ◌++◌, refl, sym, ap, ◌∙◌, append_assoc}
+use Rattle.std.proofs.Common.{◌≡◌, ℕ, suc, Bool, true, false, ◌||◌, List, [], ◌∷◌, ◌++◌, refl, sym, ap, ◌∙◌}
+use Rattle.std.proofs.Common.{append_assoc}
 use Rattle.std.proofs.lemmas.List.{append-nil}
 use Rattle.std.specs.Prelude.{ℤ, pos, negsuc, Option, Some, None, codes, decimal, Result, Ok, Err, OnOk}
 use Rattle.std.specs.Fmt.{signed_decimal}
@@ -7,13 +8,17 @@ use Rattle.gta_spec.specs.declared.parts.ColumnItem.{ColumnItem}
 use Rattle.gta_spec.specs.declared.parts.TermPart.{TermPart}
 use Rattle.gta_spec.specs.declared.parts.AtomPart.{AtomPart}
 use Rattle.gta_spec.specs.declared.parts.AtomPart.TheVariants.{Label, Column}
+use Rattle.gta_spec.specs.declared.parts.RankPart.{RankPart}
 use Rattle.gta_spec.specs.Parts.{CaseTree, PickTree, Fold, Table}
-use Rattle.gta_spec.specs.Symbols.{Word}
+use Rattle.gta_spec.specs.Keep as keeps
+use Rattle.gta_spec.specs.Keep.{KeepTree, Place, Whole, Conjunct, Operand, encloses_both, encloses_either}
+use Rattle.gta_spec.specs.Symbols.{Word, Later}
 use Rattle.gta_canonical.specs.Canonical.{Piece, spaced, glued, piece_text, line_text, fronts, name_front}
 use Rattle.gta_canonical.specs.Canonical.{names_front, num_front, header_front, item_front, atom_front, and_front}
 use Rattle.gta_canonical.specs.Canonical.{if_front, quantity_front, first_sign_front, first_term_front}
 use Rattle.gta_canonical.specs.Canonical.{next_term_front, form_front, case_front, next_case_front, cases_front}
 use Rattle.gta_canonical.specs.Canonical.{pick_front, next_pick_front, picks_front, test_front, kind_front}
+use Rattle.gta_canonical.specs.Canonical.{open_front, close_front, keep_front, rank_front, next_rank_front, best_front}
 
 -- pieces in front of a rest
 pub record IsFront (front : List Piece → List Piece) : Type 0 where
@@ -102,6 +107,34 @@ picks_is_front : (xs : List PickTree) → IsFront (picks_front xs)
 picks_is_front [] = nothing_front
 picks_is_front (x ∷ xs) = chain (pick_is_front x) (fronts_is_front next_pick_is_front xs)
 
+open_is_front : (enclosed g : Bool) → IsFront (open_front enclosed g)
+open_is_front false g = nothing_front
+open_is_front true g = one _
+
+close_is_front : (enclosed : Bool) → IsFront (close_front enclosed)
+close_is_front false = nothing_front
+close_is_front true = one _
+
+keep_is_front : (place : Place) (g : Bool) (x : KeepTree (List ℕ)) → IsFront (keep_front place g x)
+keep_is_front place g (keeps.Test x) = one _
+keep_is_front place g (keeps.Not x) = chain (one _) (keep_is_front Operand false x)
+keep_is_front place g (keeps.Both x y) =
+    chain (open_is_front (encloses_both place) g) (chain (keep_is_front Conjunct (encloses_both place || g) x)
+    (chain (one _) (chain (keep_is_front Operand false y) (close_is_front (encloses_both place)))))
+keep_is_front place g (keeps.Either x y) =
+    chain (open_is_front (encloses_either place) g) (chain (keep_is_front Whole (encloses_either place || g) x)
+    (chain (one _) (chain (keep_is_front Conjunct false y) (close_is_front (encloses_either place)))))
+
+rank_is_front : (x : RankPart) → IsFront (rank_front x)
+rank_is_front x = chain (one _) (one _)
+
+pub next_rank_is_front : (x : RankPart) → IsFront (next_rank_front x)
+next_rank_is_front x = chain (one _) (rank_is_front x)
+
+best_is_front : (k : Option ℕ) → IsFront (best_front k)
+best_is_front None = nothing_front
+best_is_front (Some k) = chain (one _) (one _)
+
 -- in the form that the code's goals have
 
 pub atom_splits : (x : AtomPart) (rest : List Piece)
@@ -127,6 +160,14 @@ pick_splits x rest = (pick_is_front x).splits rest
 pub picks_splits : (xs : List PickTree) (rest : List Piece)
     → line_text (picks_front xs rest) ≡ line_text (picks_front xs []) ++ line_text rest
 picks_splits xs rest = (picks_is_front xs).splits rest
+
+pub rank_splits : (x : RankPart) (rest : List Piece)
+    → line_text (rank_front x rest) ≡ line_text (rank_front x []) ++ line_text rest
+rank_splits x rest = (rank_is_front x).splits rest
+
+pub best_splits : (k : Option ℕ) (rest : List Piece)
+    → line_text (best_front k rest) ≡ line_text (best_front k []) ++ line_text rest
+best_splits k rest = (best_is_front k).splits rest
 
 -- what is written, and the items that are still to be written, is the whole
 pub record Written {A : Type 0} (front : A → List Piece → List Piece) (out : List ℕ) (left : List A)
@@ -178,3 +219,43 @@ pub joined : {T E : Type 0} (r : Result T E) (old mid new a b whole : List ℕ) 
     → mid ≡ old ++ a → whole ≡ a ++ b → OnOk r (new ≡ old ++ whole)
 joined (Ok x) old mid new a b whole last first parts = rw (last, first, parts) (append_assoc old a b)
 joined (Err e) old mid new a b whole last first parts = last
+
+-- two expressions with a word between them, in parentheses or not
+
+-- five writes, the last of which may fail
+five : {T E : Type 0} (r : Result T E) (old m1 m2 m3 m4 new a b c d e whole : List ℕ) → OnOk r (new ≡ m4 ++ e)
+    → m1 ≡ old ++ a → m2 ≡ m1 ++ b → m3 ≡ m2 ++ c → m4 ≡ m3 ++ d → whole ≡ a ++ (b ++ (c ++ (d ++ e)))
+    → OnOk r (new ≡ old ++ whole)
+five (Ok x) old m1 m2 m3 m4 new a b c d e whole last first second third fourth parts =
+    rw (last, fourth, third, second, first, parts) (simp append_assoc)
+five (Err fault) old m1 m2 m3 m4 new a b c d e whole last first second third fourth parts = last
+
+between : {begin left right : List Piece → List Piece} → IsFront begin → IsFront left → IsFront right
+    → (mark : Piece) (close : List Piece) → line_text (begin (left (mark ∷ right close)))
+    ≡ line_text (begin []) ++ (line_text (left []) ++ (piece_text mark ++ (line_text (right []) ++ line_text close)))
+between {begin = begin} {left = left} {right = right} begins lefts rights mark close =
+    begins.splits (left (mark ∷ right close))
+    ∙ ap (λ (ts : List ℕ). line_text (begin []) ++ ts) (lefts.splits (mark ∷ right close)
+    ∙ ap (λ (ts : List ℕ). line_text (left []) ++ (piece_text mark ++ ts)) (rights.splits close))
+
+pub both_written : {T E : Type 0} (r : Result T E) (place : Place) (g enclosed : Bool) (x y : KeepTree (List ℕ))
+    (old m1 m2 m3 m4 new : List ℕ) → enclosed ≡ encloses_both place → m1 ≡ old ++ line_text (open_front enclosed g [])
+    → m2 ≡ m1 ++ line_text (keep_front Conjunct (enclosed || g) x []) → m3 ≡ m2 ++ 32 ∷ codes "and"
+    → m4 ≡ m3 ++ line_text (keep_front Operand false y [])
+    → OnOk r (new ≡ m4 ++ line_text (close_front enclosed []))
+    → OnOk r (new ≡ old ++ line_text (keep_front place g (keeps.Both x y) []))
+both_written r place g enclosed x y old m1 m2 m3 m4 new is first second third fourth last =
+    rw (← is) (five r old m1 m2 m3 m4 new _ _ _ _ _ _ last first second third fourth
+    (between (open_is_front enclosed g) (keep_is_front Conjunct (enclosed || g) x) (keep_is_front Operand false y)
+    (spaced (Word (codes "and"))) (close_front enclosed [])))
+
+pub either_written : {T E : Type 0} (r : Result T E) (place : Place) (g enclosed : Bool) (x y : KeepTree (List ℕ))
+    (old m1 m2 m3 m4 new : List ℕ) → enclosed ≡ encloses_either place → m1 ≡ old ++ line_text (open_front enclosed g [])
+    → m2 ≡ m1 ++ line_text (keep_front Whole (enclosed || g) x []) → m3 ≡ m2 ++ 32 ∷ codes "or"
+    → m4 ≡ m3 ++ line_text (keep_front Conjunct false y [])
+    → OnOk r (new ≡ m4 ++ line_text (close_front enclosed []))
+    → OnOk r (new ≡ old ++ line_text (keep_front place g (keeps.Either x y) []))
+either_written r place g enclosed x y old m1 m2 m3 m4 new is first second third fourth last =
+    rw (← is) (five r old m1 m2 m3 m4 new _ _ _ _ _ _ last first second third fourth
+    (between (open_is_front enclosed g) (keep_is_front Whole (enclosed || g) x) (keep_is_front Conjunct false y)
+    (spaced (Later (codes "or"))) (close_front enclosed [])))

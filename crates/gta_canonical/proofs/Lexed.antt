@@ -15,7 +15,8 @@ use Rattle.gta_text.specs.Numbers.{is_digit, digits_number}
 use Rattle.gta_text.specs.Names.{is_letter, is_word_byte, is_word}
 use Rattle.gta_text.specs.Tokens.{is_blank, is_text_byte, token_at}
 use Rattle.gta_text.proofs.Slices.{spelled_from}
-use Rattle.gta_spec.specs.Symbols.{Symbol, Word, Digits, Text, Sign, Stray, unquoted}
+use Rattle.gta_spec.specs.Versions.{is_later}
+use Rattle.gta_spec.specs.Symbols.{Symbol, Word, Later, Digits, Text, Sign, Stray, unquoted, word_as}
 use Rattle.gta_canonical.specs.Canonical.{Piece, symbol_text, piece_text, line_text}
 use Rattle.gta_spec.proofs.WellRead.{as_symbol}
 use Rattle.std.proofs.Common.{rules}
@@ -29,17 +30,12 @@ pub data IsSignText : List ℕ → Type 0 where
   minus : IsSignText (codes "-")
   times : IsSignText (codes "*")
   semicolon : IsSignText (codes ";")
-
--- a symbol that can be written
-abbrev pub Writable : Symbol → Type 0
-Writable (Word x) = is_word x ≡ true
-Writable (Digits n) = n ≤ NUMBER_BOUND
-Writable (Text x) = list_all is_text_byte x ≡ true
-Writable (Sign s) = IsSignText s
-Writable Stray = ⊥
+  opening : IsSignText (codes "(")
+  closing : IsSignText (codes ")")
 
 abbrev pub is_sign_symbol : Symbol → Bool
 is_sign_symbol (Word x) = false
+is_sign_symbol (Later x) = false
 is_sign_symbol (Digits n) = false
 is_sign_symbol (Text x) = false
 is_sign_symbol (Sign s) = true
@@ -56,14 +52,11 @@ Closed (p ∷ ps) = closes p.glued p.symbol ≡ true
 -- a word and a number end where something else begins
 abbrev pub ClosedBehind : Symbol → List Piece → Type 0
 ClosedBehind (Word x) ps = Closed ps
+ClosedBehind (Later x) ps = Closed ps
 ClosedBehind (Digits n) ps = Closed ps
 ClosedBehind (Text x) ps = Unit {0}
 ClosedBehind (Sign s) ps = Unit {0}
 ClosedBehind Stray ps = Unit {0}
-
-abbrev pub AreWritable : List Piece → Type 0
-AreWritable [] = Unit {0}
-AreWritable (p ∷ ps) = Writable p.symbol × ClosedBehind p.symbol ps × AreWritable ps
 
 prefix_seam : (p : ℕ → Bool) (xs t : List ℕ) → list_all p xs ≡ true → prefix_len p t ≡ 0
     → prefix_len p (xs ++ t) ≡ length xs
@@ -126,17 +119,6 @@ text_token x t all =
     let inside : prefix_len is_text_byte (x ++ (34 ∷ t)) ≡ length x = prefix_seam is_text_byte x (34 ∷ t) all refl in
     rw (append_assoc x (34 ∷ []) t, len, inside, drop-append_seam x (34 ∷ t)) refl
 
--- the text of one symbol, and then t
-abbrev Lexes : Symbol → List ℕ → Type 0
-Lexes s t = map as_symbol (spelled_from 0 (symbol_text s ++ t)) ≡ s ∷ map as_symbol (spelled_from 0 t)
-
-lex_word : (x t : List ℕ) → is_word x ≡ true → prefix_len is_word_byte t ≡ 0 → Lexes (Word x) t
-lex_word [] t word none = absurd cc
-lex_word (b ∷ bs) t word none =
-    let letter = and_left (is_letter b) (list_all is_word_byte bs) word in
-    ap (λ ps. map as_symbol ps) (token_step b bs t kinds.Word (letter_not_blank b letter) (letter_no_comment b letter)
-    (word_token b bs t letter (and_right (is_letter b) (list_all is_word_byte bs) word) none))
-
 own : IsNumeralModel (λ ds. list_all is_digit ds ≡ true) (digits_value 10)
 own = numerals_by_value _ (search rules)
 
@@ -152,39 +134,10 @@ value_again n le =
     let bound : nat_le n NUMBER_BOUND ≡ true = grind (arith, nat_tests) in
     rw (some, all, value, bound) refl
 
-lex_digits_of : (ds t : List ℕ) → 0 < length ds → list_all is_digit ds ≡ true → prefix_len is_digit t ≡ 0
-    → map as_symbol (spelled_from 0 (ds ++ t)) ≡ Digits (unwrap_or (digits_number ds) (NUMBER_BOUND + 1)) ∷ map
-    as_symbol (spelled_from 0 t)
-lex_digits_of [] t some all none = absurd (omega arith)
-lex_digits_of (b ∷ bs) t some all none =
-    let digit = and_left (is_digit b) (list_all is_digit bs) all in
-    ap (λ ps. map as_symbol ps) (token_step b bs t kinds.Digits (digit_not_blank b digit) (digit_no_comment b digit)
-    (digits_token b bs t digit (and_right (is_digit b) (list_all is_digit bs) all) none))
-
-lex_digits : (n : ℕ) (t : List ℕ) → n ≤ NUMBER_BOUND → prefix_len is_digit t ≡ 0 → Lexes (Digits n) t
-lex_digits n t le none =
-    lex_digits_of (decimal n) t (decimal_nonempty n (small n le)) (digits_decimal own n (small n le)) none
-    ∙ ap (λ v. Digits v ∷ map as_symbol (spelled_from 0 t)) (value_again n le)
-
 unquotes : (x : List ℕ) → unquoted (34 ∷ (x ++ 34 ∷ [])) ≡ x
 unquotes x =
     let len : length (34 ∷ (x ++ 34 ∷ [])) - 2 ≡ length x = omega (arith, length-append x (34 ∷ [])) in
     rw len (take-append_seam x (34 ∷ []))
-
-lex_text : (x t : List ℕ) → list_all is_text_byte x ≡ true → Lexes (Text x) t
-lex_text x t all =
-    ap (λ ps. map as_symbol ps) (token_step 34 (x ++ 34 ∷ []) t kinds.Text refl refl (text_token x t all))
-    ∙ ap (λ y. Text y ∷ map as_symbol (spelled_from 0 t)) (unquotes x)
-
-lex_sign : (s t : List ℕ) → IsSignText s → Lexes (Sign s) t
-unfolding token_at
-lex_sign s t IsSignText.at_most = ap (λ ps. map as_symbol ps) (token_step 60 (61 ∷ []) t kinds.Sign refl refl refl)
-lex_sign s t IsSignText.at_least = ap (λ ps. map as_symbol ps) (token_step 62 (61 ∷ []) t kinds.Sign refl refl refl)
-lex_sign s t IsSignText.equal = ap (λ ps. map as_symbol ps) (token_step 61 [] t kinds.Sign refl refl refl)
-lex_sign s t IsSignText.plus = ap (λ ps. map as_symbol ps) (token_step 43 [] t kinds.Sign refl refl refl)
-lex_sign s t IsSignText.minus = ap (λ ps. map as_symbol ps) (token_step 45 [] t kinds.Sign refl refl refl)
-lex_sign s t IsSignText.times = ap (λ ps. map as_symbol ps) (token_step 42 [] t kinds.Sign refl refl refl)
-lex_sign s t IsSignText.semicolon = ap (λ ps. map as_symbol ps) (token_step 59 [] t kinds.Sign refl refl refl)
 
 -- nothing in t belongs to a word or a number before it
 abbrev Stops : List ℕ → Type 0
@@ -198,40 +151,8 @@ sign_stops s t IsSignText.plus = (refl, refl)
 sign_stops s t IsSignText.minus = (refl, refl)
 sign_stops s t IsSignText.times = (refl, refl)
 sign_stops s t IsSignText.semicolon = (refl, refl)
-
-piece_stops : (g : Bool) (s : Symbol) (t : List ℕ) → Writable s → closes g s ≡ true
-    → Stops ((cond g [] (32 ∷ []) ++ symbol_text s) ++ t)
-piece_stops false s t w closed = (refl, refl)
-piece_stops true (Word x) t w closed = absurd cc
-piece_stops true (Digits n) t w closed = absurd cc
-piece_stops true (Text x) t w closed = absurd cc
-piece_stops true (Sign s) t w closed = sign_stops s t w
-piece_stops true Stray t w closed = absurd w
-
-stops : (ps : List Piece) → AreWritable ps → Closed ps → Stops (line_text ps)
-stops [] w closed = (refl, refl)
-stops (p ∷ ps) w closed = piece_stops p.glued p.symbol (line_text ps) w.0 closed
-
-lex_symbol : (s : Symbol) (ps : List Piece) → Writable s → ClosedBehind s ps → AreWritable ps → Lexes s (line_text ps)
-lex_symbol (Word x) ps w closed ws = lex_word x (line_text ps) w (stops ps ws closed).0
-lex_symbol (Digits n) ps w closed ws = lex_digits n (line_text ps) w (stops ps ws closed).1
-lex_symbol (Text x) ps w closed ws = lex_text x (line_text ps) w
-lex_symbol (Sign s) ps w closed ws = lex_sign s (line_text ps) w
-lex_symbol Stray ps w closed ws = absurd w
-
-lex_piece : (g : Bool) (s : Symbol) (t : List ℕ) → Lexes s t
-    → map as_symbol (spelled_from 0 ((cond g [] (32 ∷ []) ++ symbol_text s) ++ t)) ≡ s ∷ map as_symbol
-    (spelled_from 0 t)
-unfolding spelled_from
-lex_piece true s t lexes = lexes
-lex_piece false s t lexes = lexes
-
-pub lexed : (ps : List Piece) → AreWritable ps → map as_symbol (spelled_from 0 (line_text ps)) ≡ map (λ p. p.symbol) ps
-unfolding spelled_from
-lexed [] w = refl
-lexed (p ∷ ps) w =
-    lex_piece p.glued p.symbol (line_text ps) (lex_symbol p.symbol ps w.0 w.1 w.2)
-    ∙ ap (λ ts. p.symbol ∷ ts) (lexed ps w.2)
+sign_stops s t IsSignText.opening = (refl, refl)
+sign_stops s t IsSignText.closing = (refl, refl)
 
 -- every byte is printed ASCII
 
@@ -276,18 +197,130 @@ sign_prints s IsSignText.plus = refl
 sign_prints s IsSignText.minus = refl
 sign_prints s IsSignText.times = refl
 sign_prints s IsSignText.semicolon = refl
+sign_prints s IsSignText.opening = refl
+sign_prints s IsSignText.closing = refl
 
-symbol_prints : (s : Symbol) → Writable s → list_all is_print (symbol_text s) ≡ true
-symbol_prints (Word x) w = word_prints x w
-symbol_prints (Digits n) w = all_weaker is_digit is_print digit_print (decimal n) (digits_decimal own n (small n w))
-symbol_prints (Text x) w = all_both is_print x (34 ∷ []) (all_weaker is_text_byte is_print text_print x w) refl
-symbol_prints (Sign s) w = sign_prints s w
-symbol_prints Stray w = absurd w
+module _ (version : ℕ) where
+  -- a symbol that can be written in this version
+  abbrev pub Writable : Symbol → Type 0
+  Writable (Word x) = (is_word x ≡ true) × (is_later version x ≡ false)
+  Writable (Later x) = (is_word x ≡ true) × (is_later version x ≡ true)
+  Writable (Digits n) = n ≤ NUMBER_BOUND
+  Writable (Text x) = list_all is_text_byte x ≡ true
+  Writable (Sign s) = IsSignText s
+  Writable Stray = ⊥
 
-piece_prints : (g : Bool) (s : Symbol) → Writable s → list_all is_print (cond g [] (32 ∷ []) ++ symbol_text s) ≡ true
-piece_prints true s w = symbol_prints s w
-piece_prints false s w = symbol_prints s w
+  abbrev pub AreWritable : List Piece → Type 0
+  AreWritable [] = Unit {0}
+  AreWritable (p ∷ ps) = Writable p.symbol × ClosedBehind p.symbol ps × AreWritable ps
 
-pub prints : (ps : List Piece) → AreWritable ps → list_all is_print (line_text ps) ≡ true
-prints [] w = refl
-prints (p ∷ ps) w = all_both is_print (piece_text p) (line_text ps) (piece_prints p.glued p.symbol w.0) (prints ps w.2)
+  -- what the tokens of the text say
+  abbrev said : List ℕ → List Symbol
+  said t = map (as_symbol version) (spelled_from 0 t)
+
+  -- the text of one symbol, and then t
+  abbrev Lexes : Symbol → List ℕ → Type 0
+  Lexes s t = said (symbol_text s ++ t) ≡ s ∷ said t
+
+  lex_word : (x t : List ℕ) → is_word x ≡ true → prefix_len is_word_byte t ≡ 0
+      → said (x ++ t) ≡ word_as version x ∷ said t
+  lex_word [] t word none = absurd cc
+  lex_word (b ∷ bs) t word none =
+      let letter = and_left (is_letter b) (list_all is_word_byte bs) word in
+      ap (λ ps. map (as_symbol version) ps)
+      (token_step b bs t kinds.Word (letter_not_blank b letter) (letter_no_comment b letter)
+      (word_token b bs t letter (and_right (is_letter b) (list_all is_word_byte bs) word) none))
+
+  word_is : (x : List ℕ) → is_later version x ≡ false → word_as version x ≡ Word x
+  word_is x off = rw off refl
+
+  later_is : (x : List ℕ) → is_later version x ≡ true → word_as version x ≡ Later x
+  later_is x on = rw on refl
+
+  lex_digits_of : (ds t : List ℕ) → 0 < length ds → list_all is_digit ds ≡ true → prefix_len is_digit t ≡ 0
+      → said (ds ++ t) ≡ Digits (unwrap_or (digits_number ds) (NUMBER_BOUND + 1)) ∷ said t
+  lex_digits_of [] t some all none = absurd (omega arith)
+  lex_digits_of (b ∷ bs) t some all none =
+      let digit = and_left (is_digit b) (list_all is_digit bs) all in
+      ap (λ ps. map (as_symbol version) ps)
+      (token_step b bs t kinds.Digits (digit_not_blank b digit) (digit_no_comment b digit)
+      (digits_token b bs t digit (and_right (is_digit b) (list_all is_digit bs) all) none))
+
+  lex_digits : (n : ℕ) (t : List ℕ) → n ≤ NUMBER_BOUND → prefix_len is_digit t ≡ 0 → Lexes (Digits n) t
+  lex_digits n t le none =
+      lex_digits_of (decimal n) t (decimal_nonempty n (small n le)) (digits_decimal own n (small n le)) none
+      ∙ ap (λ v. Digits v ∷ said t) (value_again n le)
+
+  lex_text : (x t : List ℕ) → list_all is_text_byte x ≡ true → Lexes (Text x) t
+  lex_text x t all =
+      ap (λ ps. map (as_symbol version) ps) (token_step 34 (x ++ 34 ∷ []) t kinds.Text refl refl (text_token x t all))
+      ∙ ap (λ y. Text y ∷ said t) (unquotes x)
+
+  lex_sign : (s t : List ℕ) → IsSignText s → Lexes (Sign s) t
+  unfolding token_at
+  lex_sign s t IsSignText.at_most =
+      ap (λ ps. map (as_symbol version) ps) (token_step 60 (61 ∷ []) t kinds.Sign refl refl refl)
+  lex_sign s t IsSignText.at_least =
+      ap (λ ps. map (as_symbol version) ps) (token_step 62 (61 ∷ []) t kinds.Sign refl refl refl)
+  lex_sign s t IsSignText.equal = ap (λ ps. map (as_symbol version) ps) (token_step 61 [] t kinds.Sign refl refl refl)
+  lex_sign s t IsSignText.plus = ap (λ ps. map (as_symbol version) ps) (token_step 43 [] t kinds.Sign refl refl refl)
+  lex_sign s t IsSignText.minus = ap (λ ps. map (as_symbol version) ps) (token_step 45 [] t kinds.Sign refl refl refl)
+  lex_sign s t IsSignText.times = ap (λ ps. map (as_symbol version) ps) (token_step 42 [] t kinds.Sign refl refl refl)
+  lex_sign s t IsSignText.semicolon = ap (λ ps. map (as_symbol version) ps) (token_step 59 [] t kinds.Sign refl refl refl)
+  lex_sign s t IsSignText.opening = ap (λ ps. map (as_symbol version) ps) (token_step 40 [] t kinds.Sign refl refl refl)
+  lex_sign s t IsSignText.closing = ap (λ ps. map (as_symbol version) ps) (token_step 41 [] t kinds.Sign refl refl refl)
+
+  piece_stops : (g : Bool) (s : Symbol) (t : List ℕ) → Writable s → closes g s ≡ true
+      → Stops ((cond g [] (32 ∷ []) ++ symbol_text s) ++ t)
+  piece_stops false s t w closed = (refl, refl)
+  piece_stops true (Word x) t w closed = absurd cc
+  piece_stops true (Later x) t w closed = absurd cc
+  piece_stops true (Digits n) t w closed = absurd cc
+  piece_stops true (Text x) t w closed = absurd cc
+  piece_stops true (Sign s) t w closed = sign_stops s t w
+  piece_stops true Stray t w closed = absurd w
+
+  stops : (ps : List Piece) → AreWritable ps → Closed ps → Stops (line_text ps)
+  stops [] w closed = (refl, refl)
+  stops (p ∷ ps) w closed = piece_stops p.glued p.symbol (line_text ps) w.0 closed
+
+  lex_symbol : (s : Symbol) (ps : List Piece) → Writable s → ClosedBehind s ps → AreWritable ps → Lexes s (line_text ps)
+  lex_symbol (Word x) ps w closed ws =
+      lex_word x (line_text ps) w.0 (stops ps ws closed).0
+      ∙ ap (λ s. s ∷ said (line_text ps)) (word_is x w.1)
+  lex_symbol (Later x) ps w closed ws =
+      lex_word x (line_text ps) w.0 (stops ps ws closed).0
+      ∙ ap (λ s. s ∷ said (line_text ps)) (later_is x w.1)
+  lex_symbol (Digits n) ps w closed ws = lex_digits n (line_text ps) w (stops ps ws closed).1
+  lex_symbol (Text x) ps w closed ws = lex_text x (line_text ps) w
+  lex_symbol (Sign s) ps w closed ws = lex_sign s (line_text ps) w
+  lex_symbol Stray ps w closed ws = absurd w
+
+  lex_piece : (g : Bool) (s : Symbol) (t : List ℕ) → Lexes s t
+      → said ((cond g [] (32 ∷ []) ++ symbol_text s) ++ t) ≡ s ∷ said t
+  unfolding spelled_from
+  lex_piece true s t lexes = lexes
+  lex_piece false s t lexes = lexes
+
+  pub lexed : (ps : List Piece) → AreWritable ps → said (line_text ps) ≡ map (λ p. p.symbol) ps
+  unfolding spelled_from
+  lexed [] w = refl
+  lexed (p ∷ ps) w =
+      lex_piece p.glued p.symbol (line_text ps) (lex_symbol p.symbol ps w.0 w.1 w.2)
+      ∙ ap (λ ts. p.symbol ∷ ts) (lexed ps w.2)
+
+  symbol_prints : (s : Symbol) → Writable s → list_all is_print (symbol_text s) ≡ true
+  symbol_prints (Word x) w = word_prints x w.0
+  symbol_prints (Later x) w = word_prints x w.0
+  symbol_prints (Digits n) w = all_weaker is_digit is_print digit_print (decimal n) (digits_decimal own n (small n w))
+  symbol_prints (Text x) w = all_both is_print x (34 ∷ []) (all_weaker is_text_byte is_print text_print x w) refl
+  symbol_prints (Sign s) w = sign_prints s w
+  symbol_prints Stray w = absurd w
+
+  piece_prints : (g : Bool) (s : Symbol) → Writable s → list_all is_print (cond g [] (32 ∷ []) ++ symbol_text s) ≡ true
+  piece_prints true s w = symbol_prints s w
+  piece_prints false s w = symbol_prints s w
+
+  pub prints : (ps : List Piece) → AreWritable ps → list_all is_print (line_text ps) ≡ true
+  prints [] w = refl
+  prints (p ∷ ps) w = all_both is_print (piece_text p) (line_text ps) (piece_prints p.glued p.symbol w.0) (prints ps w.2)

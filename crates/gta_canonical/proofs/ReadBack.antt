@@ -1,9 +1,12 @@
 -- The canonical text of a well formed specification is that specification, its parts on the lines from the second on.
 use Rattle.std.proofs.Common.{◌≡◌, ℕ, zero, suc, ◌+◌, ◌-◌, ◌<◌, Bool, true, false, not, ◌&&◌, ◌||◌, List, [], ◌∷◌}
-use Rattle.std.proofs.Common.{◌++◌, length, get_or, refl, ap, ◌∙◌, arith, append_assoc, one-add, length-append}
+use Rattle.std.proofs.Common.{◌++◌, length, get_or, refl, sym, ap, ◌∙◌, arith, append_assoc, one-add}
+use Rattle.std.proofs.Common.{length-append}
 use Rattle.std.proofs.lemmas.Bool.Decides.{nat_tests}
 use Rattle.std.proofs.Math.Seq.{take-append_seam}
 use Rattle.std.specs.Prelude.{Some, None, Result, Ok, Err, IfOk, nat_lt, ◌==◌, codes, flat_map, slice_index}
+use Rattle.std.specs.Prelude.{if◌then◌else◌}
+use Rattle.std.specs.Fmt.{digits}
 use Rattle.std.specs.List.{list_all, list_any, prefix_len}
 use Rattle.std.specs.Str.{bytes_eq}
 use Rattle.gta_text.specs.declared.token.TokenKind.{TokenKind}
@@ -11,14 +14,16 @@ use Rattle.gta_text.specs.declared.token.TokenKind.TheVariants as kinds
 use Rattle.gta_text.specs.declared.token.Token.{Token}
 use Rattle.gta_text.specs.Tokens.{tokens_from, token_at}
 use Rattle.gta_text.specs.Text.{raw_lines, without_last, content, is_plain, first_bad, is_rows, Numbered, Found}
-use Rattle.gta_text.specs.Text.{BadByte, line_if, with_lines, lines_from, read_lines}
-use Rattle.gta_spec.specs.Symbols.{Symbol, Word, Digits, Text, Sign, Stray, symbol_of, symbols}
-use Rattle.gta_spec.specs.Parts.{KindTree, Columns, Labels, Measure, Table, Times, Generate, Test, Aggregate}
-use Rattle.gta_spec.specs.Parts.{PartTree, SpecTree}
+use Rattle.gta_text.specs.Text.{token_text, BadByte, line_if, with_lines, lines_from, read_lines}
+use Rattle.gta_spec.specs.Versions.{is_version, is_later}
+use Rattle.gta_spec.specs.Symbols.{Symbol, Word, Later, Digits, Text, Sign, Stray, symbol_of, symbols}
+use Rattle.gta_spec.specs.Parts.{KindTree, Columns, Labels, Measure, Table, Times, Generate, Test, Named, Keep}
+use Rattle.gta_spec.specs.Parts.{Aggregate, PartTree, SpecTree}
 use Rattle.gta_spec.specs.Grammar.{IsPart}
-use Rattle.gta_spec.specs.SpecText.{is_version, is_past, has_past, AreParts, none, some, SpecText}
+use Rattle.gta_spec.specs.SpecText.{version_in, is_past, has_past, AreParts, none, some, SpecText}
 use Rattle.gta_spec.specs.WellFormed.{FitsKind, FitParts, IsWellFormed}
-use Rattle.gta_canonical.specs.Canonical.{Piece, glued, line_text, kind_front, part_text, canonical, renumbered}
+use Rattle.gta_canonical.specs.Canonical.{Piece, glued, line_text, kind_front, part_text, version_text, canonical}
+use Rattle.gta_canonical.specs.Canonical.{renumbered}
 use Rattle.gta_spec.proofs.WellRead.{symbols_at}
 use Rattle.gta_canonical.proofs.Lexed.{Writable, AreWritable, lexed, is_print, prints}
 use Rattle.gta_canonical.proofs.Spelled.{syms, kind_spelled, kind_writable}
@@ -105,28 +110,40 @@ none_bad xs all =
 abbrev pub rows_symbols : List Symbol → Bool
 rows_symbols [] = false
 rows_symbols (Word x ∷ []) = bytes_eq x (codes "rows")
+rows_symbols (Later x ∷ []) = bytes_eq x (codes "rows")
 rows_symbols (Digits n ∷ []) = false
 rows_symbols (Text x ∷ []) = false
 rows_symbols (Sign s ∷ []) = false
 rows_symbols (Stray ∷ []) = false
 rows_symbols (t ∷ u ∷ ts) = false
 
-rows_by_symbols : (source : List ℕ) (tokens : List Token) → is_rows source tokens ≡ rows_symbols (symbols source tokens)
-rows_by_symbols source [] = refl
-rows_by_symbols source (token ∷ []) = by_kind token.kind
+word_by_symbols : (later : Bool) (text : List ℕ)
+    → bytes_eq text (codes "rows") ≡ rows_symbols ((if later then Later text else Word text) ∷ [])
+word_by_symbols true text = refl
+word_by_symbols false text = refl
+
+rows_by_symbols : (version : ℕ) (source : List ℕ) (tokens : List Token)
+    → is_rows source tokens ≡ rows_symbols (symbols version source tokens)
+rows_by_symbols version source [] = refl
+rows_by_symbols version source (token ∷ []) = by_kind token.kind
   where
     by_kind : (kind : TokenKind) → is_rows source (record { kind = kind; start = token.start; end = token.end } ∷ [])
-        ≡ rows_symbols (symbols source (record { kind = kind; start = token.start; end = token.end } ∷ []))
-    by_kind kinds.Word = refl
+        ≡ rows_symbols (symbols version source (record { kind = kind; start = token.start; end = token.end } ∷ []))
+    by_kind kinds.Word = word_by_symbols (is_later version (token_text source token)) (token_text source token)
     by_kind kinds.Digits = refl
     by_kind kinds.Text = refl
     by_kind kinds.Sign = refl
     by_kind kinds.Stray = refl
-rows_by_symbols source (token ∷ second ∷ tokens) = refl
+rows_by_symbols version source (token ∷ second ∷ tokens) = refl
 
 no_rows : (w : List ℕ) (ts : List Symbol) → bytes_eq w (codes "rows") ≡ false → rows_symbols (Word w ∷ ts) ≡ false
 no_rows w [] off = off
 no_rows w (t ∷ ts) off = refl
+
+no_rows_later : (w : List ℕ) (ts : List Symbol) → bytes_eq w (codes "rows") ≡ false
+    → rows_symbols (Later w ∷ ts) ≡ false
+no_rows_later w [] off = off
+no_rows_later w (t ∷ ts) off = refl
 
 kind_no_rows : (x : KindTree) → rows_symbols (syms (kind_front x [])) ≡ false
 kind_no_rows (Columns xs) = no_rows (codes "columns") _ refl
@@ -136,26 +153,29 @@ kind_no_rows (Table part) = refl
 kind_no_rows (Times part) = refl
 kind_no_rows (Generate s) = refl
 kind_no_rows (Test t) = no_rows (codes "test") _ refl
+kind_no_rows (Named x t) = refl
+kind_no_rows (Keep x) = no_rows_later (codes "keep") _ refl
 kind_no_rows (Aggregate g) = no_rows (codes "aggregate") _ refl
 
 -- numbers that can be written are within the bound
 
-none_past : (ps : List Piece) → AreWritable ps → list_any is_past (syms ps) ≡ false
-none_past [] w = refl
-none_past (p ∷ ps) w = rw (symbol_within p.symbol w.0) (none_past ps w.2)
+none_past : (version : ℕ) (ps : List Piece) → AreWritable version ps → list_any is_past (syms ps) ≡ false
+none_past version [] w = refl
+none_past version (p ∷ ps) w = rw (symbol_within p.symbol w.0) (none_past version ps w.2)
   where
-    symbol_within : (s : Symbol) → Writable s → is_past s ≡ false
+    symbol_within : (s : Symbol) → Writable version s → is_past s ≡ false
     symbol_within (Word x) v = refl
+    symbol_within (Later x) v = refl
     symbol_within (Digits n) v = grind (arith, nat_tests)
     symbol_within (Text x) v = refl
     symbol_within (Sign s) v = refl
     symbol_within Stray v = refl
 
-past_by_symbols : (source : List ℕ) (tokens : List Token)
-    → has_past source tokens ≡ list_any is_past (symbols source tokens)
-past_by_symbols source [] = refl
-past_by_symbols source (token ∷ tokens) = ap (λ b. is_past (symbol_of source token) || b)
-    (past_by_symbols source tokens)
+past_by_symbols : (version : ℕ) (source : List ℕ) (tokens : List Token)
+    → has_past version source tokens ≡ list_any is_past (symbols version source tokens)
+past_by_symbols version source [] = refl
+past_by_symbols version source (token ∷ tokens) =
+    ap (λ b. is_past (symbol_of version source token) || b) (past_by_symbols version source tokens)
 
 -- one line of pieces
 
@@ -165,28 +185,28 @@ pub record Placed (source : List ℕ) (place : ℕ) (held back : List ℕ) : Typ
   pub whole : source ≡ front ++ (held ++ 10 ∷ back)
   pub at : place ≡ length front
 
-line_symbols : (source : List ℕ) (place : ℕ) (ps : List Piece) (back : List ℕ) → AreWritable ps
-    → Placed source place (line_text ps) back
-    → symbols source (tokens_from 0 place (line_text ps)) ≡ syms ps
-line_symbols source place ps back w placed =
-    symbols_at (line_text ps) placed.front (10 ∷ back) source place placed.whole placed.at ∙ lexed ps w
+line_symbols : (version : ℕ) (source : List ℕ) (place : ℕ) (ps : List Piece) (back : List ℕ)
+    → AreWritable version ps → Placed source place (line_text ps) back
+    → symbols version source (tokens_from 0 place (line_text ps)) ≡ syms ps
+line_symbols version source place ps back w placed =
+    symbols_at version (line_text ps) placed.front (10 ∷ back) source place placed.whole placed.at
+    ∙ lexed version ps w
 
 line_length : (held : List ℕ) → length (held ++ 10 ∷ []) ≡ length held + 1
 line_length held = length-append held (10 ∷ [])
 
-pub at_line : (source : List ℕ) (number place : ℕ) (ps : List Piece) (back : List ℕ) → AreWritable ps
-    → Placed source place (line_text ps) back
-    → rows_symbols (syms ps) ≡ false
+pub at_line : (version : ℕ) (source : List ℕ) (number place : ℕ) (ps : List Piece) (back : List ℕ)
+    → AreWritable version ps → Placed source place (line_text ps) back → rows_symbols (syms ps) ≡ false
     → lines_from source number place (raw_lines (line_text ps ++ 10 ∷ back))
     ≡ with_lines (line_if number (tokens_from 0 place (line_text ps)))
     (lines_from source (number + 1) (place + (length (line_text ps) + 1)) (raw_lines back))
 unfolding lines_from
-at_line source number place ps back w placed other =
+at_line version source number place ps back w placed other =
     let held = line_text ps in
-    let all = prints ps w in
-    let not_rows : is_rows source (tokens_from 0 place held) ≡ false = rows_by_symbols source
-    (tokens_from 0 place held) ∙ ap (λ ts. rows_symbols ts) (line_symbols source place ps back w placed)
-    ∙ other in
+    let all = prints version ps w in
+    let not_rows : is_rows source (tokens_from 0 place held) ≡ false =
+    rows_by_symbols version source (tokens_from 0 place held)
+    ∙ ap (λ ts. rows_symbols ts) (line_symbols version source place ps back w placed) ∙ other in
     rw (raw_line held back all, content_back held all, line_length held, not_rows, none_bad held all) refl
 
 -- the parts, and the line `rows`
@@ -198,21 +218,22 @@ abbrev parts_text : List PartTree → List ℕ
 parts_text parts = flat_map part_text parts ++ rows_text
 
 -- what is read are the parts, on the lines from this number on, and the line `rows` at the end
-record Back (source : List ℕ) (number : ℕ) (parts : List PartTree) (read : Result Found BadByte) : Type 0 where
+record Back (version : ℕ) (source : List ℕ) (number : ℕ) (parts : List PartTree)
+    (read : Result Found BadByte) : Type 0 where
   lines : List Numbered
   is : read ≡ Ok (record { lines = lines; rows_at = Some (length source) })
-  said : AreParts source lines (renumbered number parts)
-  numbers : list_any (λ line. has_past source line.tokens) lines ≡ false
+  said : AreParts version source lines (renumbered number parts)
+  numbers : list_any (λ line. has_past version source line.tokens) lines ≡ false
 
 at_rows : (source : List ℕ) (number place : ℕ) (front : List ℕ) → source ≡ front ++ rows_text → place ≡ length front
     → lines_from source number place (raw_lines rows_text) ≡ Ok (record { lines = []; rows_at = Some (length source) })
-unfolding lines_from
+unfolding lines_from is_later
 at_rows source number place front whole at =
     let placed : Placed source place (codes "rows") [] = record { front = front; whole = whole; at = at } in
-    let same : symbols source (tokens_from 0 place (codes "rows")) ≡ Word (codes "rows") ∷ [] =
-    line_symbols source place (glued (Word (codes "rows")) ∷ []) [] (refl, tt, tt) placed in
+    let same : symbols 1 source (tokens_from 0 place (codes "rows")) ≡ Word (codes "rows") ∷ [] =
+    line_symbols 1 source place (glued (Word (codes "rows")) ∷ []) [] ((refl, refl), tt, tt) placed in
     let rows : is_rows source (tokens_from 0 place (codes "rows")) ≡ true =
-    rows_by_symbols source (tokens_from 0 place (codes "rows")) ∙ ap (λ ts. rows_symbols ts) same in
+    rows_by_symbols 1 source (tokens_from 0 place (codes "rows")) ∙ ap (λ ts. rows_symbols ts) same in
     let end : place + 5 ≡ length source = omega (arith, at, ap length whole, length-append front rows_text) in
     rw (raw_line (codes "rows") [] refl, content_back (codes "rows") refl, rows)
     (ap (λ n. Ok (record { lines = []; rows_at = Some n })) end)
@@ -229,25 +250,29 @@ kind_first (Table part) = (Word (codes "table"), (_, refl))
 kind_first (Times part) = (Word (codes "times"), (_, refl))
 kind_first (Generate s) = (Word (codes "generate"), (_, refl))
 kind_first (Test t) = (Word (codes "test"), (_, refl))
+kind_first (Named x t) = (Word (codes "test"), (_, refl))
+kind_first (Keep x) = (Later (codes "keep"), (_, refl))
 kind_first (Aggregate g) = (Word (codes "aggregate"), (_, refl))
 
-some_line : (source : List ℕ) (number : ℕ) (tokens : List Token) (t : Symbol) (ts : List Symbol)
-    → symbols source tokens ≡ t ∷ ts
+some_line : (version : ℕ) (source : List ℕ) (number : ℕ) (tokens : List Token) (t : Symbol) (ts : List Symbol)
+    → symbols version source tokens ≡ t ∷ ts
     → line_if number tokens ≡ record { number = number; tokens = tokens } ∷ []
-some_line source number [] t ts e = absurd cc
-some_line source number (token ∷ tokens) t ts e = refl
+some_line version source number [] t ts e = absurd cc
+some_line version source number (token ∷ tokens) t ts e = refl
 
-one_more : (source : List ℕ) (number : ℕ) (part : PartTree) (parts : List PartTree) (tokens : List Token)
-    (read : Result Found BadByte) → FitsKind part.kind
-    → symbols source tokens ≡ syms (kind_front part.kind []) → Back source (number + 1) parts read
-    → Back source number (part ∷ parts) (with_lines (line_if number tokens) read)
-one_more source number part parts tokens read fits same back =
+one_more : (version : ℕ) (source : List ℕ) (number : ℕ) (part : PartTree) (parts : List PartTree)
+    (tokens : List Token) (read : Result Found BadByte) → FitsKind version part.kind
+    → symbols version source tokens ≡ syms (kind_front part.kind []) → Back version source (number + 1) parts read
+    → Back version source number (part ∷ parts) (with_lines (line_if number tokens) read)
+one_more version source number part parts tokens read fits same back =
     let first = kind_first part.kind in
-    let line : line_if number tokens ≡ record { number = number; tokens = tokens } ∷ [] = some_line source number
-    tokens first.0 first.1.0 (same ∙ first.1.1) in
-    let derived : IsPart part.kind (symbols source tokens) = rw same (kind_spelled part.kind fits) in
-    let within : has_past source tokens ≡ false = past_by_symbols source tokens ∙ ap (λ ts. list_any is_past ts) same
-    ∙ none_past (kind_front part.kind []) (kind_writable part.kind fits) in
+    let line : line_if number tokens ≡ record { number = number; tokens = tokens } ∷ [] =
+    some_line version source number tokens first.0 first.1.0 (same ∙ first.1.1) in
+    let derived : IsPart version part.kind (symbols version source tokens) =
+    rw same (kind_spelled version part.kind fits) in
+    let within : has_past version source tokens ≡ false =
+    past_by_symbols version source tokens ∙ ap (λ ts. list_any is_past ts) same
+    ∙ none_past version (kind_front part.kind []) (kind_writable version part.kind fits) in
     record {
       lines = record { number = number; tokens = tokens } ∷ back.lines;
       is = rw (back.is, line) refl;
@@ -255,18 +280,21 @@ one_more source number part parts tokens read fits same back =
       numbers = rw within back.numbers;
     }
 
-parts_back : (parts : List PartTree) (source front : List ℕ) (number place low : ℕ) → FitParts low parts
-    → source ≡ front ++ parts_text parts → place ≡ length front
-    → Back source number parts (lines_from source number place (raw_lines (parts_text parts)))
-parts_back [] source front number place low fit whole at =
+rest_of : (xs ys zs : List ℕ) → xs ++ (ys ++ 10 ∷ zs) ≡ (xs ++ (ys ++ 10 ∷ [])) ++ zs
+rest_of xs ys zs = simp append_assoc
+
+parts_back : (version : ℕ) (parts : List PartTree) (source front : List ℕ) (number place low : ℕ)
+    → FitParts version low parts → source ≡ front ++ parts_text parts → place ≡ length front
+    → Back version source number parts (lines_from source number place (raw_lines (parts_text parts)))
+parts_back version [] source front number place low fit whole at =
     record { lines = []; is = at_rows source number place front whole at; said = none; numbers = refl }
-parts_back (part ∷ parts) source front number place low fit whole at =
+parts_back version (part ∷ parts) source front number place low fit whole at =
     let pieces = kind_front part.kind [] in
     let held = line_text pieces in
-    let writable = kind_writable part.kind fit.1 in
+    let writable = kind_writable version part.kind fit.1 in
     let placed : Placed source place held (parts_text parts) =
     record { front = front; whole = whole ∙ ap (λ (ts : List ℕ). front ++ ts) (text_splits part parts); at = at } in
-    let later = parts_back parts source (front ++ (held ++ 10 ∷ [])) (number + 1) (place + (length held + 1))
+    let later = parts_back version parts source (front ++ (held ++ 10 ∷ [])) (number + 1) (place + (length held + 1))
     (part.line + 1) fit.2
     (placed.whole ∙ rest_of front held (parts_text parts))
     (omega (arith, at, length-append front (held ++ 10 ∷ []), length-append held (10 ∷ []))) in
@@ -274,36 +302,49 @@ parts_back (part ∷ parts) source front number place low fit whole at =
     ≡ with_lines (line_if number (tokens_from 0 place held))
     (lines_from source (number + 1) (place + (length held + 1)) (raw_lines (parts_text parts))) =
     ap (λ (ts : List ℕ). lines_from source number place (raw_lines ts)) (text_splits part parts)
-    ∙ at_line source number place pieces (parts_text parts) writable placed (kind_no_rows part.kind) in
-    let more = one_more source number part parts (tokens_from 0 place held) _ fit.1
-    (line_symbols source place pieces (parts_text parts) writable placed) later in
+    ∙ at_line version source number place pieces (parts_text parts) writable placed (kind_no_rows part.kind) in
+    let more = one_more version source number part parts (tokens_from 0 place held) _ fit.1
+    (line_symbols version source place pieces (parts_text parts) writable placed) later in
     record { lines = more.lines; is = read ∙ more.is; said = more.said; numbers = more.numbers }
-  where
-    rest_of : (xs ys zs : List ℕ) → xs ++ (ys ++ 10 ∷ zs) ≡ (xs ++ (ys ++ 10 ∷ [])) ++ zs
-    rest_of xs ys zs = simp append_assoc
 
 -- the first line
 
-version_no_rows : (source : List ℕ) → is_rows source (tokens_from 0 0 (codes "gta 1")) ≡ false
-unfolding tokens_from token_at
-version_no_rows source = refl
+record NamesVersion (version : ℕ) : Type 0 where
+  prints_all : list_all is_print (version_text version) ≡ true
+  no_rows_in : (source : List ℕ) → is_rows source (tokens_from 0 0 (version_text version)) ≡ false
+  line : line_if 1 (tokens_from 0 0 (version_text version)) ≡ record
+      { number = 1; tokens = tokens_from 0 0 (version_text version) } ∷ []
+  again : (back : List ℕ)
+      → version_in (version_text version ++ 10 ∷ back) (tokens_from 0 0 (version_text version)) ≡ Some version
 
-version_line : (number : ℕ)
-    → line_if number (tokens_from 0 0 (codes "gta 1")) ≡ record
-    { number = number; tokens = tokens_from 0 0 (codes "gta 1") } ∷ []
-unfolding tokens_from token_at
-version_line number = refl
+one_named : NamesVersion 1
+unfolding tokens_from token_at digits
+one_named = record { prints_all = refl; no_rows_in = λ source. refl; line = refl; again = λ back. refl }
 
-version_again : (back : List ℕ) → is_version (codes "gta 1" ++ 10 ∷ back) (tokens_from 0 0 (codes "gta 1")) ≡ true
-unfolding tokens_from token_at
-version_again back = refl
+two_named : NamesVersion 2
+unfolding tokens_from token_at digits
+two_named = record { prints_all = refl; no_rows_in = λ source. refl; line = refl; again = λ back. refl }
 
-first_line : (source back : List ℕ)
-    → lines_from source 1 0 (raw_lines (codes "gta 1" ++ 10 ∷ back))
-    ≡ with_lines (line_if 1 (tokens_from 0 0 (codes "gta 1"))) (lines_from source 2 6 (raw_lines back))
+version_named_in : (version : ℕ) → is_version version ≡ true → NamesVersion version
+version_named_in zero is =
+    let no : true ≡ false = sym is in absurd cc
+version_named_in (suc zero) is = one_named
+version_named_in (suc (suc zero)) is = two_named
+version_named_in (suc (suc (suc n))) is =
+    let off : is_version (suc (suc (suc n))) ≡ false = grind (arith, nat_tests) in
+    let no : true ≡ false = sym is ∙ off in absurd cc
+
+first_line : (version : ℕ) (source back : List ℕ) → NamesVersion version
+    → lines_from source 1 0 (raw_lines (version_text version ++ 10 ∷ back))
+    ≡ with_lines (line_if 1 (tokens_from 0 0 (version_text version)))
+    (lines_from source 2 (length (version_text version) + 1) (raw_lines back))
 unfolding lines_from
-first_line source back =
-    rw (raw_line (codes "gta 1") back refl, content_back (codes "gta 1") refl, version_no_rows source) refl
+first_line version source back named =
+    let held = version_text version in
+    let all = named.prints_all in
+    let place : 0 + (length held + 1) ≡ length held + 1 = omega arith in
+    rw (raw_line held back all, content_back held all, line_length held, named.no_rows_in source, none_bad held all, place)
+    refl
 
 pub canonical_text : (spec : SpecTree) → IsWellFormed spec
     → SpecText (canonical spec) (record { version = spec.version; parts = renumbered 2 spec.parts })
@@ -311,13 +352,15 @@ pub canonical_text : (spec : SpecTree) → IsWellFormed spec
 unfolding read_lines
 canonical_text spec well =
     let bytes = canonical spec in
-    let back = parts_back spec.parts bytes (codes "gta 1" ++ 10 ∷ []) 2 6 0 well.parts refl refl in
+    let held = version_text spec.version in
+    let named = version_named_in spec.version well.version in
+    let back = parts_back spec.version spec.parts bytes (held ++ 10 ∷ []) 2 (length held + 1) 0 well.parts
+    (rest_of [] held (parts_text spec.parts)) (omega (arith, line_length held)) in
     record {
-      first = record { number = 1; tokens = tokens_from 0 0 (codes "gta 1") };
+      first = record { number = 1; tokens = tokens_from 0 0 held };
       others = back.lines;
-      lines = first_line bytes (parts_text spec.parts) ∙ rw (back.is, version_line 1) refl;
-      version = version_again (parts_text spec.parts);
-      is_one = well.version;
+      lines = first_line spec.version bytes (parts_text spec.parts) named ∙ rw (back.is, named.line) refl;
+      version = named.again (parts_text spec.parts);
       parts = back.said;
       numbers = back.numbers;
     }

@@ -1,7 +1,7 @@
 -- The canonical text of a specification: its symbols with one space between them,
 -- but none where one is glued to the one before.
-use Rattle.std.specs.Prelude.{ℕ, suc, ◌+◌, Bool, true, false, List, [], ◌∷◌, ◌++◌, flat_map, ℤ, pos, negsuc, Option}
-use Rattle.std.specs.Prelude.{Some, None, codes, if◌then◌else◌, decimal}
+use Rattle.std.specs.Prelude.{ℕ, suc, ◌+◌, Bool, true, false, ◌||◌, List, [], ◌∷◌, ◌++◌, flat_map, ℤ, pos, negsuc}
+use Rattle.std.specs.Prelude.{Option, Some, None, codes, if◌then◌else◌, decimal}
 use Rattle.shape_gen.specs.declared.shape.Shape.{Shape}
 use Rattle.shape_gen.specs.declared.shape.Shape.TheVariants as shapes
 use Rattle.gta_spec.specs.declared.parts.ColumnItem.{ColumnItem}
@@ -13,10 +13,13 @@ use Rattle.gta_spec.specs.declared.parts.Cmp.TheVariants.{AtMost, AtLeast, Equal
 use Rattle.gta_spec.specs.declared.parts.Check.{Check}
 use Rattle.gta_spec.specs.declared.parts.Check.TheVariants.{Compare, Mod}
 use Rattle.gta_spec.specs.declared.parts.GoalPart.{GoalPart}
-use Rattle.gta_spec.specs.declared.parts.GoalPart.TheVariants.{Count, Any, Max, Min, Best}
+use Rattle.gta_spec.specs.declared.parts.GoalPart.TheVariants.{Count, Any, Max, Min, Best, Ranked}
+use Rattle.gta_spec.specs.declared.parts.RankPart.{RankPart}
 use Rattle.gta_spec.specs.Parts.{CaseTree, PickTree, TestTree, Sum, Length, Fold, KindTree, Columns, Labels, Measure}
-use Rattle.gta_spec.specs.Parts.{Table, Times, Generate, Test, Aggregate, PartTree, SpecTree}
-use Rattle.gta_spec.specs.Symbols.{Symbol, Word, Digits, Text, Sign, Stray}
+use Rattle.gta_spec.specs.Parts.{Table, Times, Generate, Test, Named, Keep, Aggregate, PartTree, SpecTree}
+use Rattle.gta_spec.specs.Keep as keeps
+use Rattle.gta_spec.specs.Keep.{KeepTree, Place, Whole, Conjunct, Operand, encloses_both, encloses_either}
+use Rattle.gta_spec.specs.Symbols.{Symbol, Word, Later, Digits, Text, Sign, Stray}
 
 -- a symbol, and whether no space stands before it
 pub record Piece : Type 0 where
@@ -31,6 +34,7 @@ glued symbol = record { symbol = symbol; glued = true }
 
 abbrev pub symbol_text : Symbol → List ℕ
 symbol_text (Word x) = x
+symbol_text (Later x) = x
 symbol_text (Digits n) = decimal n
 symbol_text (Text x) = 34 ∷ (x ++ 34 ∷ [])
 symbol_text (Sign s) = s
@@ -144,6 +148,29 @@ test_front (Fold table picks accept) rest =
     spaced (Word (codes "fold")) ∷ spaced (Word table) ∷ spaced (Word (codes "by"))
     ∷ picks_front picks (spaced (Word (codes "accept")) ∷ names_front accept rest)
 
+-- the parentheses of an expression that has them
+abbrev pub open_front : Bool → Bool → List Piece → List Piece
+open_front false is_glued rest = rest
+open_front true is_glued rest = record { symbol = Sign (codes "("); glued = is_glued } ∷ rest
+
+abbrev pub close_front : Bool → List Piece → List Piece
+close_front false rest = rest
+close_front true rest = glued (Sign (codes ")")) ∷ rest
+
+-- an expression that stands at a place; glued to what stands before, or not
+abbrev pub keep_front : Place → Bool → KeepTree (List ℕ) → List Piece → List Piece
+keep_front place is_glued (keeps.Test x) rest = record { symbol = Word x; glued = is_glued } ∷ rest
+keep_front place is_glued (keeps.Not x) rest =
+    record { symbol = Later (codes "not"); glued = is_glued } ∷ keep_front Operand false x rest
+keep_front place is_glued (keeps.Both x y) rest =
+    open_front (encloses_both place) is_glued
+    (keep_front Conjunct (encloses_both place || is_glued) x
+    (spaced (Word (codes "and")) ∷ keep_front Operand false y (close_front (encloses_both place) rest)))
+keep_front place is_glued (keeps.Either x y) rest =
+    open_front (encloses_either place) is_glued
+    (keep_front Whole (encloses_either place || is_glued) x
+    (spaced (Later (codes "or")) ∷ keep_front Conjunct false y (close_front (encloses_either place) rest)))
+
 abbrev pub shape_word : Shape → List ℕ
 shape_word shapes.Sublists = codes "sublists"
 shape_word shapes.Assign = codes "assign"
@@ -155,6 +182,20 @@ abbrev pub end_word : Bool → List ℕ
 end_word true = codes "max"
 end_word false = codes "min"
 
+abbrev pub rank_front : RankPart → List Piece → List Piece
+rank_front rank rest = spaced (Word (end_word rank.greatest)) ∷ spaced (Word rank.name) ∷ rest
+
+abbrev pub next_rank_front : RankPart → List Piece → List Piece
+next_rank_front rank rest = spaced (Later (codes "then")) ∷ rank_front rank rest
+
+abbrev pub ranks_front : List RankPart → List Piece → List Piece
+ranks_front [] rest = rest
+ranks_front (x ∷ xs) rest = rank_front x (fronts next_rank_front xs rest)
+
+abbrev pub best_front : Option ℕ → List Piece → List Piece
+best_front None rest = rest
+best_front (Some k) rest = spaced (Word (codes "best")) ∷ spaced (Digits k) ∷ rest
+
 abbrev pub goal_front : GoalPart → List Piece → List Piece
 goal_front Count rest = spaced (Word (codes "count")) ∷ rest
 goal_front Any rest = spaced (Word (codes "any")) ∷ rest
@@ -163,6 +204,7 @@ goal_front (Min x) rest = spaced (Word (codes "min")) ∷ spaced (Word x) ∷ re
 goal_front (Best k greatest x) rest =
     spaced (Word (codes "best")) ∷ spaced (Digits k) ∷ spaced (Word (end_word greatest))
     ∷ spaced (Word x) ∷ rest
+goal_front (Ranked k keys) rest = best_front k (ranks_front keys rest)
 
 -- the pieces of a line, the first of which stands at its beginning
 abbrev pub kind_front : KindTree → List Piece → List Piece
@@ -181,14 +223,22 @@ kind_front (Times part) rest =
 kind_front (Generate shape) rest =
     glued (Word (codes "generate")) ∷ spaced (Word (shape_word shape)) ∷ rest
 kind_front (Test test) rest = glued (Word (codes "test")) ∷ test_front test rest
+kind_front (Named name test) rest =
+    glued (Word (codes "test")) ∷ spaced (Word name) ∷ spaced (Sign (codes "=")) ∷ test_front test rest
+kind_front (Keep keep) rest = glued (Later (codes "keep")) ∷ keep_front Whole false keep rest
 kind_front (Aggregate goal) rest = glued (Word (codes "aggregate")) ∷ goal_front goal rest
 
 abbrev pub part_text : PartTree → List ℕ
 part_text part = line_text (kind_front part.kind []) ++ 10 ∷ []
 
--- `gta 1`, each part on a line, and `rows`
+-- `gta 1` or `gta 2`
+abbrev pub version_text : ℕ → List ℕ
+version_text version = codes "gta " ++ decimal version
+
+-- the version, each part on a line, and `rows`
 abbrev pub canonical : SpecTree → List ℕ
-canonical spec = codes "gta 1" ++ 10 ∷ (flat_map part_text spec.parts ++ (codes "rows" ++ 10 ∷ []))
+canonical spec =
+    version_text spec.version ++ 10 ∷ (flat_map part_text spec.parts ++ (codes "rows" ++ 10 ∷ []))
 
 -- the same parts, on the lines from this number on
 abbrev pub renumbered : ℕ → List PartTree → List PartTree

@@ -2,6 +2,7 @@
 //! is, and which there are, is in gta_spec.
 #![tactic(auto)]
 
+mod keep_printing;
 mod part_printing;
 mod printing;
 mod showing;

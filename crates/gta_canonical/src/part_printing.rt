@@ -10,11 +10,14 @@ ghost use Rattle.gta_canonical.specs.Canonical.{form_front, case_front, next_cas
 ghost use Rattle.gta_canonical.specs.Canonical.{pick_front, next_pick_front, picks_front};
 ghost use Rattle.gta_canonical.specs.Canonical.{check_front, test_front, goal_front, kind_front};
 ghost use Rattle.gta_canonical.specs.Canonical.{shape_word, end_word, part_text};
+ghost use Rattle.gta_canonical.specs.Canonical.{rank_front, next_rank_front, ranks_front, best_front};
 
+use crate::keep_printing::put_keep_line;
 use crate::printing::{
-    put_cmp, put_digits, put_if, put_items, put_name, put_names, put_num, put_number, put_spaced,
+    put_behind, put_cmp, put_digits, put_if, put_items, put_name, put_names, put_num, put_number,
+    put_spaced,
 };
-use gta_spec::{CasePart, Check, GoalPart, Part, PartKind, PickPart, TermPart, TestPart};
+use gta_spec::{CasePart, Check, GoalPart, Part, PartKind, PickPart, RankPart, TermPart, TestPart};
 use gta_text::Name;
 use shape_gen::Shape;
 use std::alloc::{AllocError, Global};
@@ -38,17 +41,6 @@ fn put_quantity(
             out.push(b'*')?;
             out.extend_from_slice(name.bytes())
         }
-    }
-}
-
-fn put_behind(out: &mut Vec<u8>, glued: bool, text: &[u8]) -> Result<(), AllocError>
-    ensures { OnOk result
-        (out.new.items ≡ out.old.items ++ ((if glued then [] else 32 ∷ []) ++ text.now)) }
-{
-    if glued {
-        out.extend_from_slice(text)
-    } else {
-        put_spaced(out, text)
     }
 }
 
@@ -268,6 +260,54 @@ fn put_end(out: &mut Vec<u8>, greatest: bool) -> Result<(), AllocError>
     }
 }
 
+fn put_rank(out: &mut Vec<u8>, rank: &RankPart) -> Result<(), AllocError>
+    ensures { OnOk result (out.new.items ≡ out.old.items ++ line_text (rank_front rank.now [])) }
+{
+    put_end(out, rank.greatest)?;
+    put_name(out, &rank.name)
+}
+
+fn put_next_rank(out: &mut Vec<u8>, rank: &RankPart) -> Result<(), AllocError>
+    ensures { OnOk result
+        (out.new.items ≡ out.old.items ++ line_text (next_rank_front rank.now [])) }
+{
+    put_spaced(out, b"then")?;
+    put_rank(out, rank)
+}
+
+fn put_more_ranks(out: &mut Vec<u8>, ranks: &[RankPart]) -> Result<(), AllocError>
+    ensures { OnOk result
+        (out.new.items ≡ out.old.items ++ line_text (fronts next_rank_front ranks.now [])) }
+{
+    for rank in ranks {
+        put_next_rank(out, rank)?;
+    }
+    Ok(())
+}
+
+#[tactic(auto, using(crate::proofs::Fronts::rank_splits))]
+fn put_ranks(out: &mut Vec<u8>, ranks: &[RankPart]) -> Result<(), AllocError>
+    ensures { OnOk result (out.new.items ≡ out.old.items ++ line_text (ranks_front ranks.now [])) }
+{
+    let Some((first, others)) = ranks.split_first() else {
+        return Ok(());
+    };
+    put_rank(out, first)?;
+    put_more_ranks(out, others)
+}
+
+/// `best` and the number, where there is one.
+fn put_best(alloc: Global, out: &mut Vec<u8>, k: Option<u64>) -> Result<(), AllocError>
+    ensures { OnOk result (out.new.items ≡ out.old.items ++ line_text (best_front k [])) }
+{
+    let Some(k) = k else {
+        return Ok(());
+    };
+    put_spaced(out, b"best")?;
+    put_number(alloc, out, k)
+}
+
+#[tactic(auto, using(crate::proofs::Fronts::best_splits))]
 fn put_goal(alloc: Global, out: &mut Vec<u8>, goal: &GoalPart) -> Result<(), AllocError>
     ensures { OnOk result (out.new.items ≡ out.old.items ++ line_text (goal_front goal.now [])) }
 {
@@ -287,6 +327,10 @@ fn put_goal(alloc: Global, out: &mut Vec<u8>, goal: &GoalPart) -> Result<(), All
             put_number(alloc, out, *k)?;
             put_end(out, *greatest)?;
             put_name(out, name)
+        }
+        GoalPart::Ranked { k, keys } => {
+            put_best(alloc, out, *k)?;
+            put_ranks(out, keys.as_slice())
         }
     }
 }
@@ -339,6 +383,13 @@ fn put_kind(alloc: Global, out: &mut Vec<u8>, kind: &PartKind) -> Result<(), All
             out.extend_from_slice(b"test")?;
             put_test(alloc, out, test)
         }
+        PartKind::Named { name, test } => {
+            out.extend_from_slice(b"test")?;
+            put_name(out, name)?;
+            put_spaced(out, b"=")?;
+            put_test(alloc, out, test)
+        }
+        PartKind::Keep(keep) => put_keep_line(out, keep),
         PartKind::Aggregate(goal) => {
             out.extend_from_slice(b"aggregate")?;
             put_goal(alloc, out, goal)

@@ -1,6 +1,7 @@
 //! Printing the parts of a line. What is printed is in specs/Canonical.antt; each function adds
 //! what the definition of its name with `_front` says.
 ghost use Rattle.std.specs.Prelude.{◌≡◌, ℕ, [], ◌∷◌, ◌++◌, map, IfOk, OnOk, decimal, string_bytes};
+ghost use Rattle.std.specs.Prelude.{if◌then◌else◌};
 ghost use Rattle.std.specs.Fmt.{signed_decimal};
 ghost use Rattle.gta_canonical.specs.Canonical.{line_text, fronts, name_front, names_front, num_front};
 ghost use Rattle.gta_canonical.specs.Canonical.{item_front, cmp_text, atom_front, and_front, if_front};
@@ -15,6 +16,18 @@ pub(crate) fn put_spaced(out: &mut Vec<u8>, text: &[u8]) -> Result<(), AllocErro
 {
     out.push(b' ')?;
     out.extend_from_slice(text)
+}
+
+/// The text, behind a space or not.
+pub(crate) fn put_behind(out: &mut Vec<u8>, glued: bool, text: &[u8]) -> Result<(), AllocError>
+    ensures { OnOk result
+        (out.new.items ≡ out.old.items ++ ((if glued then [] else 32 ∷ []) ++ text.now)) }
+{
+    if glued {
+        out.extend_from_slice(text)
+    } else {
+        put_spaced(out, text)
+    }
 }
 
 pub(crate) fn put_digits(alloc: Global, out: &mut Vec<u8>, number: u64) -> Result<(), AllocError>

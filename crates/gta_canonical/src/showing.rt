@@ -6,10 +6,11 @@ ghost use Rattle.gta_canonical.specs.Canonical.{canonical, part_text, shown_as};
 ghost use Rattle.gta_spec.specs.SpecText.{SpecText};
 
 use crate::part_printing::put_part;
+use crate::printing::put_digits;
 use gta_spec::{Part, Spec};
 use std::alloc::{AllocError, Global};
 
-/// The canonical text of the specification: `gta 1`, each part on a line of its own, and `rows`.
+/// The canonical text of the specification: `gta 1` or `gta 2`, each part on a line of its own, and `rows`.
 /// Refuses only for want of memory.
 pub fn show_spec(alloc: Global, spec: &Spec) -> Result<Vec<u8>, AllocError>
     requires { IsWellFormed (spec_tree spec.now) }
@@ -25,7 +26,9 @@ fn text_of(alloc: Global, spec: &Spec) -> Result<Vec<u8>, AllocError>
     ensures { IfOk result (λ text. text.items ≡ canonical (spec_tree spec.now)) }
 {
     let mut text = Vec::new(alloc);
-    text.extend_from_slice(b"gta 1\n")?;
+    text.extend_from_slice(b"gta ")?;
+    put_digits(alloc, &mut text, u64::from(spec.version))?;
+    text.push(b'\n')?;
     put_parts(alloc, &mut text, &spec.parts)?;
     text.extend_from_slice(b"rows\n")?;
     Ok(text)
