@@ -54,7 +54,7 @@ fn goal_weight(prepared: &PreparedJob, row: u32, label: u32) -> i64
         result ≡ weights.goal_weight job.checked (plain_rows job.rows) (mark row label) }
 {
     let job = &prepared.job;
-    match goal_measure(*job.checked.goal()) {
+    match goal_measure(job.checked.goal()) {
         None => 0,
         Some(measure) => value_of(&job.checked, &job.rows, measure, row, label) as i64,
     }
