@@ -46,7 +46,7 @@ use Rattle.gta_canonical.proofs.Lexed.{IsSignText, Closed, Writable, AreWritable
 abbrev pub syms : List Piece → List Symbol
 syms ps = map (λ p. p.symbol) ps
 
--- a word that no version reserves later than the first
+-- a word that is not among those that later versions reserve
 abbrev is_first_word : List ℕ → Bool
 is_first_word x = is_word x && not (list_any (bytes_eq x) later_words)
 
