@@ -223,12 +223,12 @@ joined (Err e) old mid new a b whole last first parts = last
 -- two expressions with a word between them, in parentheses or not
 
 -- five writes, the last of which may fail
-five : {T E : Type 0} (r : Result T E) (old m1 m2 m3 m4 new a b c d e whole : List ℕ) → OnOk r (new ≡ m4 ++ e)
+five_joined : {T E : Type 0} (r : Result T E) (old m1 m2 m3 m4 new a b c d e whole : List ℕ) → OnOk r (new ≡ m4 ++ e)
     → m1 ≡ old ++ a → m2 ≡ m1 ++ b → m3 ≡ m2 ++ c → m4 ≡ m3 ++ d → whole ≡ a ++ (b ++ (c ++ (d ++ e)))
     → OnOk r (new ≡ old ++ whole)
-five (Ok x) old m1 m2 m3 m4 new a b c d e whole last first second third fourth parts =
+five_joined (Ok x) old m1 m2 m3 m4 new a b c d e whole last first second third fourth parts =
     rw (last, fourth, third, second, first, parts) (simp append_assoc)
-five (Err fault) old m1 m2 m3 m4 new a b c d e whole last first second third fourth parts = last
+five_joined (Err fault) old m1 m2 m3 m4 new a b c d e whole last first second third fourth parts = last
 
 between : {begin left right : List Piece → List Piece} → IsFront begin → IsFront left → IsFront right
     → (mark : Piece) (close : List Piece) → line_text (begin (left (mark ∷ right close)))
@@ -245,7 +245,7 @@ pub both_written : {T E : Type 0} (r : Result T E) (place : Place) (g enclosed :
     → OnOk r (new ≡ m4 ++ line_text (close_front enclosed []))
     → OnOk r (new ≡ old ++ line_text (keep_front place g (keeps.Both x y) []))
 both_written r place g enclosed x y old m1 m2 m3 m4 new is first second third fourth last =
-    rw (← is) (five r old m1 m2 m3 m4 new _ _ _ _ _ _ last first second third fourth
+    rw (← is) (five_joined r old m1 m2 m3 m4 new _ _ _ _ _ _ last first second third fourth
     (between (open_is_front enclosed g) (keep_is_front Conjunct (enclosed || g) x) (keep_is_front Operand false y)
     (spaced (Word (codes "and"))) (close_front enclosed [])))
 
@@ -256,6 +256,6 @@ pub either_written : {T E : Type 0} (r : Result T E) (place : Place) (g enclosed
     → OnOk r (new ≡ m4 ++ line_text (close_front enclosed []))
     → OnOk r (new ≡ old ++ line_text (keep_front place g (keeps.Either x y) []))
 either_written r place g enclosed x y old m1 m2 m3 m4 new is first second third fourth last =
-    rw (← is) (five r old m1 m2 m3 m4 new _ _ _ _ _ _ last first second third fourth
+    rw (← is) (five_joined r old m1 m2 m3 m4 new _ _ _ _ _ _ last first second third fourth
     (between (open_is_front enclosed g) (keep_is_front Whole (enclosed || g) x) (keep_is_front Conjunct false y)
     (spaced (Later (codes "or"))) (close_front enclosed [])))

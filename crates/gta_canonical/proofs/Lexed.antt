@@ -266,7 +266,8 @@ module _ (version : ℕ) where
   lex_sign s t IsSignText.plus = ap (λ ps. map (as_symbol version) ps) (token_step 43 [] t kinds.Sign refl refl refl)
   lex_sign s t IsSignText.minus = ap (λ ps. map (as_symbol version) ps) (token_step 45 [] t kinds.Sign refl refl refl)
   lex_sign s t IsSignText.times = ap (λ ps. map (as_symbol version) ps) (token_step 42 [] t kinds.Sign refl refl refl)
-  lex_sign s t IsSignText.semicolon = ap (λ ps. map (as_symbol version) ps) (token_step 59 [] t kinds.Sign refl refl refl)
+  lex_sign s t IsSignText.semicolon =
+      ap (λ ps. map (as_symbol version) ps) (token_step 59 [] t kinds.Sign refl refl refl)
   lex_sign s t IsSignText.opening = ap (λ ps. map (as_symbol version) ps) (token_step 40 [] t kinds.Sign refl refl refl)
   lex_sign s t IsSignText.closing = ap (λ ps. map (as_symbol version) ps) (token_step 41 [] t kinds.Sign refl refl refl)
 
@@ -323,4 +324,5 @@ module _ (version : ℕ) where
 
   pub prints : (ps : List Piece) → AreWritable ps → list_all is_print (line_text ps) ≡ true
   prints [] w = refl
-  prints (p ∷ ps) w = all_both is_print (piece_text p) (line_text ps) (piece_prints p.glued p.symbol w.0) (prints ps w.2)
+  prints (p ∷ ps) w =
+      all_both is_print (piece_text p) (line_text ps) (piece_prints p.glued p.symbol w.0) (prints ps w.2)

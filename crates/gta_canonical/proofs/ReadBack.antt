@@ -325,12 +325,12 @@ two_named : NamesVersion 2
 unfolding tokens_from token_at digits
 two_named = record { prints_all = refl; no_rows_in = λ source. refl; line = refl; again = λ back. refl }
 
-version_named_in : (version : ℕ) → is_version version ≡ true → NamesVersion version
-version_named_in zero is =
+known_version : (version : ℕ) → is_version version ≡ true → NamesVersion version
+known_version zero is =
     let no : true ≡ false = sym is in absurd cc
-version_named_in (suc zero) is = one_named
-version_named_in (suc (suc zero)) is = two_named
-version_named_in (suc (suc (suc n))) is =
+known_version (suc zero) is = one_named
+known_version (suc (suc zero)) is = two_named
+known_version (suc (suc (suc n))) is =
     let off : is_version (suc (suc (suc n))) ≡ false = grind (arith, nat_tests) in
     let no : true ≡ false = sym is ∙ off in absurd cc
 
@@ -343,8 +343,8 @@ first_line version source back named =
     let held = version_text version in
     let all = named.prints_all in
     let place : 0 + (length held + 1) ≡ length held + 1 = omega arith in
-    rw (raw_line held back all, content_back held all, line_length held, named.no_rows_in source, none_bad held all, place)
-    refl
+    let other = named.no_rows_in source in
+    rw (raw_line held back all, content_back held all, line_length held, other, none_bad held all, place) refl
 
 pub canonical_text : (spec : SpecTree) → IsWellFormed spec
     → SpecText (canonical spec) (record { version = spec.version; parts = renumbered 2 spec.parts })
@@ -353,7 +353,7 @@ unfolding read_lines
 canonical_text spec well =
     let bytes = canonical spec in
     let held = version_text spec.version in
-    let named = version_named_in spec.version well.version in
+    let named = known_version spec.version well.version in
     let back = parts_back spec.version spec.parts bytes (held ++ 10 ∷ []) 2 (length held + 1) 0 well.parts
     (rest_of [] held (parts_text spec.parts)) (omega (arith, line_length held)) in
     record {

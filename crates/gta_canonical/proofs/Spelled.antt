@@ -46,7 +46,7 @@ use Rattle.gta_canonical.proofs.Lexed.{IsSignText, Closed, Writable, AreWritable
 abbrev pub syms : List Piece → List Symbol
 syms ps = map (λ p. p.symbol) ps
 
--- a word that no version reserves later than the first
+-- a word that is not among those that later versions reserve
 abbrev is_first_word : List ℕ → Bool
 is_first_word x = is_word x && not (list_any (bytes_eq x) later_words)
 
@@ -65,8 +65,10 @@ off_if_not false on e = refl
 first_word_is_writable : (version : ℕ) (x : List ℕ) → is_first_word x ≡ true → Writable version (Word x)
 unfolding is_later
 first_word_is_writable version x word =
-    let among = list_any (bytes_eq x) later_words in
-    (first_and (is_word x) (not among) word, off_if_not among (nat_le 2 version) (second_and (is_word x) (not among) word))
+    let among = list_any (bytes_eq x) later_words in (
+      first_and (is_word x) (not among) word,
+      off_if_not among (nat_le 2 version) (second_and (is_word x) (not among) word),
+    )
 
 on_if_later : (version : ℕ) (x : List ℕ) → list_any (bytes_eq x) later_words ≡ true → 2 ≤ version
     → is_later version x ≡ true
@@ -208,7 +210,8 @@ module _ (version : ℕ) where
   nothing = record { writable = tt; closed = tt }
 
   a_word : (x : List ℕ) (rest : List Piece) → is_first_word x ≡ true → Flows rest → Flows (spaced (Word x) ∷ rest)
-  a_word x rest word flows = record { writable = (first_word_is_writable version x word, flows.closed, flows.writable); closed = refl }
+  a_word x rest word flows =
+      record { writable = (first_word_is_writable version x word, flows.closed, flows.writable); closed = refl }
 
   later_word : (x : List ℕ) → is_word x ≡ true → list_any (bytes_eq x) later_words ≡ true → 2 ≤ version
       → Writable version (Later x)
@@ -221,7 +224,8 @@ module _ (version : ℕ) where
   name_is_writable x fits = (first_and (is_word x) (not (is_reserved x)) fits.0, fits.1)
 
   a_name : (x : List ℕ) (rest : List Piece) → FitsName version x → Flows rest → Flows (spaced (Word x) ∷ rest)
-  a_name x rest fits flows = record { writable = (name_is_writable x fits, flows.closed, flows.writable); closed = refl }
+  a_name x rest fits flows =
+      record { writable = (name_is_writable x fits, flows.closed, flows.writable); closed = refl }
 
   a_sign : (s : List ℕ) (rest : List Piece) → IsSignText s → AreWritable version rest → Flows (spaced (Sign s) ∷ rest)
   a_sign s rest sign writable = record { writable = (sign, tt, writable); closed = refl }
@@ -245,7 +249,8 @@ module _ (version : ℕ) where
   names_spelled (x ∷ xs) rest fits = listed (the_name fits.1.0)
       (many_spelled name_front (λ y r f. the_name f) xs rest fits.1.1)
 
-  names_flow : (xs : List (List ℕ)) (rest : List Piece) → SomeFit (FitsName version) xs → Flows rest → Flows (names_front xs rest)
+  names_flow : (xs : List (List ℕ)) (rest : List Piece) → SomeFit (FitsName version) xs → Flows rest
+      → Flows (names_front xs rest)
   names_flow xs rest fits flows = many_flow (λ y r f g. a_name y r f g) xs rest fits.1 flows
 
   -- columns
@@ -255,14 +260,19 @@ module _ (version : ℕ) where
   item_spelled_as x None rest name header = IsItem.bare (the_name name)
   item_spelled_as x (Some t) rest name header = IsItem.headed (the_name name) refl refl
 
-  item_spelled : (x : ColumnItem) (rest : List Piece) → FitsItem version x → IsItem x (syms (item_front x rest)) (syms rest)
+  item_spelled : (x : ColumnItem) (rest : List Piece) → FitsItem version x
+      → IsItem x (syms (item_front x rest)) (syms rest)
   item_spelled x rest fits = item_spelled_as x.name x.header rest fits.0 fits.1
 
-  item_flows_as : (x : List ℕ) (h : Option (List ℕ)) (rest : List Piece) → FitsName version x → FitsIf FitsHeader h → Flows rest
+  item_flows_as : (x : List ℕ) (h : Option (List ℕ)) (rest : List Piece) → FitsName version x → FitsIf FitsHeader h
+      → Flows rest
       → Flows (item_front (record { name = x; header = h }) rest)
   item_flows_as x None rest name header flows = a_name x rest name flows
   item_flows_as x (Some t) rest name header flows =
-      record { writable = (name_is_writable x name, refl, (IsSignText.equal, tt, (header, tt, flows.writable))); closed = refl }
+      record {
+        writable = (name_is_writable x name, refl, (IsSignText.equal, tt, (header, tt, flows.writable)));
+        closed = refl;
+      }
 
   item_flows : (x : ColumnItem) (rest : List Piece) → FitsItem version x → Flows rest → Flows (item_front x rest)
   item_flows x rest fits flows = item_flows_as x.name x.header rest fits.0 fits.1 flows
@@ -279,7 +289,8 @@ module _ (version : ℕ) where
   num_flows (pos n) rest fits flows = a_number n rest fits flows
   num_flows (negsuc n) rest fits flows = a_sign (codes "-") _ IsSignText.minus (fits, flows.closed, flows.writable)
 
-  atom_spelled : (x : AtomPart) (rest : List Piece) → FitsAtom version x → IsAtom x (syms (atom_front x rest)) (syms rest)
+  atom_spelled : (x : AtomPart) (rest : List Piece) → FitsAtom version x
+      → IsAtom x (syms (atom_front x rest)) (syms rest)
   atom_spelled (Label x) rest fits = IsAtom.label refl (the_name fits)
   atom_spelled (Column x c z) rest fits = IsAtom.column (the_name fits.0) (cmp_spelled c (syms (num_front z rest)))
       (num_spelled z rest)
@@ -302,7 +313,8 @@ module _ (version : ℕ) where
       IsIf.given refl (listed (atom_spelled x (fronts and_front xs rest) fits.0)
       (many_spelled and_front and_spelled xs rest fits.1))
 
-  if_flows : (xs : List AtomPart) (rest : List Piece) → EachFits (FitsAtom version) xs → Flows rest → Flows (if_front xs rest)
+  if_flows : (xs : List AtomPart) (rest : List Piece) → EachFits (FitsAtom version) xs → Flows rest
+      → Flows (if_front xs rest)
   if_flows [] rest fits flows = flows
   if_flows (x ∷ xs) rest fits flows = a_word (codes "if") _ refl
       (atom_flows x _ fits.0 (many_flow and_flows xs rest fits.1 flows))
@@ -349,7 +361,8 @@ module _ (version : ℕ) where
   first_term_flows_as true n x rest fits flows = a_sign (codes "-") _ IsSignText.minus
       (quantity_writable true n x rest fits flows)
 
-  first_term_flows : (x : TermPart) (rest : List Piece) → FitsTerm version x → Flows rest → Flows (first_term_front x rest)
+  first_term_flows : (x : TermPart) (rest : List Piece) → FitsTerm version x → Flows rest
+      → Flows (first_term_front x rest)
   first_term_flows x rest fits flows = first_term_flows_as x.minus x.number x.name rest fits flows
 
   next_term_spelled_as : (m : Bool) (n : Option ℕ) (x : Option (List ℕ)) (rest : List Piece) → FitsQuantity version n x
@@ -362,14 +375,16 @@ module _ (version : ℕ) where
       → IsNextTerm x (syms (next_term_front x rest)) (syms rest)
   next_term_spelled x rest fits = next_term_spelled_as x.minus x.number x.name rest fits
 
-  next_term_flows_as : (m : Bool) (n : Option ℕ) (x : Option (List ℕ)) (rest : List Piece) → FitsQuantity version n x → Flows rest
+  next_term_flows_as : (m : Bool) (n : Option ℕ) (x : Option (List ℕ)) (rest : List Piece)
+      → FitsQuantity version n x → Flows rest
       → Flows (next_term_front (record { minus = m; number = n; name = x }) rest)
   next_term_flows_as false n x rest fits flows = a_sign (codes "+") _ IsSignText.plus
       (quantity_writable false n x rest fits flows)
   next_term_flows_as true n x rest fits flows = a_sign (codes "-") _ IsSignText.minus
       (quantity_writable false n x rest fits flows)
 
-  next_term_flows : (x : TermPart) (rest : List Piece) → FitsTerm version x → Flows rest → Flows (next_term_front x rest)
+  next_term_flows : (x : TermPart) (rest : List Piece) → FitsTerm version x → Flows rest
+      → Flows (next_term_front x rest)
   next_term_flows x rest fits flows = next_term_flows_as x.minus x.number x.name rest fits flows
 
   form_spelled : (xs : List TermPart) (rest : List Piece) → SomeFit (FitsTerm version) xs
@@ -378,13 +393,15 @@ module _ (version : ℕ) where
   form_spelled (x ∷ xs) rest fits = listed (first_term_spelled x (fronts next_term_front xs rest) fits.1.0)
       (many_spelled next_term_front next_term_spelled xs rest fits.1.1)
 
-  form_flows : (xs : List TermPart) (rest : List Piece) → SomeFit (FitsTerm version) xs → Flows rest → Flows (form_front xs rest)
+  form_flows : (xs : List TermPart) (rest : List Piece) → SomeFit (FitsTerm version) xs → Flows rest
+      → Flows (form_front xs rest)
   form_flows [] rest fits flows = flows
   form_flows (x ∷ xs) rest fits flows = first_term_flows x _ fits.1.0 (many_flow next_term_flows xs rest fits.1.1 flows)
 
   -- cases and picks
 
-  case_spelled : (x : CaseTree) (rest : List Piece) → FitsCase version x → IsCase x (syms (case_front x rest)) (syms rest)
+  case_spelled : (x : CaseTree) (rest : List Piece) → FitsCase version x
+      → IsCase x (syms (case_front x rest)) (syms rest)
   case_spelled x rest fits = IsCase.case (form_spelled x.form (if_front x.cond rest) fits.0)
       (if_spelled x.cond rest fits.1)
 
@@ -395,7 +412,8 @@ module _ (version : ℕ) where
       → IsNextCase x (syms (next_case_front x rest)) (syms rest)
   next_case_spelled x rest fits = behind refl (case_spelled x rest fits)
 
-  next_case_flows : (x : CaseTree) (rest : List Piece) → FitsCase version x → Flows rest → Flows (next_case_front x rest)
+  next_case_flows : (x : CaseTree) (rest : List Piece) → FitsCase version x → Flows rest
+      → Flows (next_case_front x rest)
   next_case_flows x rest fits flows = a_sign (codes ";") _ IsSignText.semicolon (case_flows x rest fits flows).writable
 
   cases_spelled : (xs : List CaseTree) (rest : List Piece) → SomeFit (FitsCase version) xs
@@ -404,11 +422,13 @@ module _ (version : ℕ) where
   cases_spelled (x ∷ xs) rest fits = listed (case_spelled x (fronts next_case_front xs rest) fits.1.0)
       (many_spelled next_case_front next_case_spelled xs rest fits.1.1)
 
-  cases_flow : (xs : List CaseTree) (rest : List Piece) → SomeFit (FitsCase version) xs → Flows rest → Flows (cases_front xs rest)
+  cases_flow : (xs : List CaseTree) (rest : List Piece) → SomeFit (FitsCase version) xs → Flows rest
+      → Flows (cases_front xs rest)
   cases_flow [] rest fits flows = flows
   cases_flow (x ∷ xs) rest fits flows = case_flows x _ fits.1.0 (many_flow next_case_flows xs rest fits.1.1 flows)
 
-  pick_spelled : (x : PickTree) (rest : List Piece) → FitsPick version x → IsPick x (syms (pick_front x rest)) (syms rest)
+  pick_spelled : (x : PickTree) (rest : List Piece) → FitsPick version x
+      → IsPick x (syms (pick_front x rest)) (syms rest)
   pick_spelled x rest fits = IsPick.pick (the_name fits.0) (if_spelled x.cond rest fits.1)
 
   pick_flows : (x : PickTree) (rest : List Piece) → FitsPick version x → Flows rest → Flows (pick_front x rest)
@@ -418,7 +438,8 @@ module _ (version : ℕ) where
       → IsNextPick x (syms (next_pick_front x rest)) (syms rest)
   next_pick_spelled x rest fits = behind refl (pick_spelled x rest fits)
 
-  next_pick_flows : (x : PickTree) (rest : List Piece) → FitsPick version x → Flows rest → Flows (next_pick_front x rest)
+  next_pick_flows : (x : PickTree) (rest : List Piece) → FitsPick version x → Flows rest
+      → Flows (next_pick_front x rest)
   next_pick_flows x rest fits flows = a_sign (codes ";") _ IsSignText.semicolon (pick_flows x rest fits flows).writable
 
   picks_spelled : (xs : List PickTree) (rest : List Piece) → SomeFit (FitsPick version) xs
@@ -427,7 +448,8 @@ module _ (version : ℕ) where
   picks_spelled (x ∷ xs) rest fits = listed (pick_spelled x (fronts next_pick_front xs rest) fits.1.0)
       (many_spelled next_pick_front next_pick_spelled xs rest fits.1.1)
 
-  picks_flow : (xs : List PickTree) (rest : List Piece) → SomeFit (FitsPick version) xs → Flows rest → Flows (picks_front xs rest)
+  picks_flow : (xs : List PickTree) (rest : List Piece) → SomeFit (FitsPick version) xs → Flows rest
+      → Flows (picks_front xs rest)
   picks_flow [] rest fits flows = flows
   picks_flow (x ∷ xs) rest fits flows = pick_flows x _ fits.1.0 (many_flow next_pick_flows xs rest fits.1.1 flows)
 
@@ -473,7 +495,8 @@ module _ (version : ℕ) where
   }
 
   rank_flows : (x : RankPart) (rest : List Piece) → FitsRank version x → Flows rest → Flows (rank_front x rest)
-  rank_flows x rest fits flows = a_word (end_word x.greatest) _ (end_is_first x.greatest) (a_name x.name rest fits flows)
+  rank_flows x rest fits flows =
+      a_word (end_word x.greatest) _ (end_is_first x.greatest) (a_name x.name rest fits flows)
 
   next_rank_flows : 2 ≤ version → (x : RankPart) (rest : List Piece) → FitsRank version x → Flows rest
       → Flows (next_rank_front x rest)
@@ -528,40 +551,47 @@ module _ (version : ℕ) where
       (IsLitOver.not refl (keep_spelled Operand n false x rest (omega (arith, le)) fits))
   keep_spelled Whole n g (Both x y) rest le fits =
       let others = spaced (Word (codes "and")) ∷ keep_front Operand false y rest in
-      as_expr (conj_and (keep_spelled Conjunct n g x others (omega (arith, le)) (left_fit (kept_tests x) (kept_tests y) fits))
-      (behind refl (keep_spelled Operand n false y rest (omega (arith, le)) (right_fit (kept_tests x) (kept_tests y) fits))))
+      let left = keep_spelled Conjunct n g x others (omega (arith, le)) (left_fit (kept_tests x) (kept_tests y) fits) in
+      let right = keep_spelled Operand n false y rest (omega (arith, le))
+      (right_fit (kept_tests x) (kept_tests y) fits) in
+      as_expr (conj_and left (behind refl right))
   keep_spelled Conjunct n g (Both x y) rest le fits =
       let others = spaced (Word (codes "and")) ∷ keep_front Operand false y rest in
-      conj_and (keep_spelled Conjunct n g x others (omega (arith, le)) (left_fit (kept_tests x) (kept_tests y) fits))
-      (behind refl (keep_spelled Operand n false y rest (omega (arith, le)) (right_fit (kept_tests x) (kept_tests y) fits)))
+      let left = keep_spelled Conjunct n g x others (omega (arith, le)) (left_fit (kept_tests x) (kept_tests y) fits) in
+      let right = keep_spelled Operand n false y rest (omega (arith, le))
+      (right_fit (kept_tests x) (kept_tests y) fits) in
+      conj_and left (behind refl right)
   keep_spelled Operand zero g (Both x y) rest le fits = absurd (omega (arith, le))
   keep_spelled Operand (suc n) g (Both x y) rest le fits =
       let close = close_front true rest in
       let others = spaced (Word (codes "and")) ∷ keep_front Operand false y close in
-      IsLitOver.nested refl
-      (as_expr (conj_and (keep_spelled Conjunct n true x others (omega (arith, le)) (left_fit (kept_tests x) (kept_tests y) fits))
-      (behind refl (keep_spelled Operand n false y close (omega (arith, le)) (right_fit (kept_tests x) (kept_tests y) fits)))))
-      refl
+      let left = keep_spelled Conjunct n true x others (omega (arith, le))
+      (left_fit (kept_tests x) (kept_tests y) fits) in
+      let right = keep_spelled Operand n false y close (omega (arith, le))
+      (right_fit (kept_tests x) (kept_tests y) fits) in
+      IsLitOver.nested refl (as_expr (conj_and left (behind refl right))) refl
   keep_spelled Whole n g (Either x y) rest le fits =
       let others = spaced (Later (codes "or")) ∷ keep_front Conjunct false y rest in
-      expr_or (keep_spelled Whole n g x others (omega (arith, le)) (left_fit (kept_tests x) (kept_tests y) fits))
-      (behind refl (keep_spelled Conjunct n false y rest (omega (arith, le)) (right_fit (kept_tests x) (kept_tests y) fits)))
+      let left = keep_spelled Whole n g x others (omega (arith, le)) (left_fit (kept_tests x) (kept_tests y) fits) in
+      let right = keep_spelled Conjunct n false y rest (omega (arith, le))
+      (right_fit (kept_tests x) (kept_tests y) fits) in
+      expr_or left (behind refl right)
   keep_spelled Conjunct zero g (Either x y) rest le fits = absurd (omega (arith, le))
   keep_spelled Conjunct (suc n) g (Either x y) rest le fits =
       let close = close_front true rest in
       let others = spaced (Later (codes "or")) ∷ keep_front Conjunct false y close in
-      as_conj (IsLitOver.nested refl
-      (expr_or (keep_spelled Whole n true x others (omega (arith, le)) (left_fit (kept_tests x) (kept_tests y) fits))
-      (behind refl (keep_spelled Conjunct n false y close (omega (arith, le)) (right_fit (kept_tests x) (kept_tests y) fits))))
-      refl)
+      let left = keep_spelled Whole n true x others (omega (arith, le)) (left_fit (kept_tests x) (kept_tests y) fits) in
+      let right = keep_spelled Conjunct n false y close (omega (arith, le))
+      (right_fit (kept_tests x) (kept_tests y) fits) in
+      as_conj (IsLitOver.nested refl (expr_or left (behind refl right)) refl)
   keep_spelled Operand zero g (Either x y) rest le fits = absurd (omega (arith, le))
   keep_spelled Operand (suc n) g (Either x y) rest le fits =
       let close = close_front true rest in
       let others = spaced (Later (codes "or")) ∷ keep_front Conjunct false y close in
-      IsLitOver.nested refl
-      (expr_or (keep_spelled Whole n true x others (omega (arith, le)) (left_fit (kept_tests x) (kept_tests y) fits))
-      (behind refl (keep_spelled Conjunct n false y close (omega (arith, le)) (right_fit (kept_tests x) (kept_tests y) fits))))
-      refl
+      let left = keep_spelled Whole n true x others (omega (arith, le)) (left_fit (kept_tests x) (kept_tests y) fits) in
+      let right = keep_spelled Conjunct n false y close (omega (arith, le))
+      (right_fit (kept_tests x) (kept_tests y) fits) in
+      IsLitOver.nested refl (expr_or left (behind refl right)) refl
 
   keep_counted : (place : Place) (g : Bool) (x : Expr) (rest : List Piece) → EachFits (FitsName version) (kept_tests x)
       → names_among (syms (keep_front place g x rest)) ≡ length (kept_tests x) + names_among (syms rest)
@@ -655,7 +685,8 @@ module _ (version : ℕ) where
   kind_spelled (Aggregate g) fits = IsLine.aggregate refl (goal_spelled g fits)
 
   -- the first piece of a line
-  at_start : (x : List ℕ) (rest : List Piece) → is_first_word x ≡ true → Flows rest → AreWritable version (glued (Word x) ∷ rest)
+  at_start : (x : List ℕ) (rest : List Piece) → is_first_word x ≡ true → Flows rest
+      → AreWritable version (glued (Word x) ∷ rest)
   at_start x rest word flows = (first_word_is_writable version x word, flows.closed, flows.writable)
 
   pub kind_writable : (x : KindTree) → FitsKind version x → AreWritable version (kind_front x [])
@@ -666,7 +697,8 @@ module _ (version : ℕ) where
       (a_name part.name _ fits.0
       (a_sign (codes "=") _ IsSignText.equal (cases_flow part.cases [] fits.1 nothing).writable))
   kind_writable (Table part) fits =
-      at_start (codes "table") _ refl (a_name part.name _ fits.0 (a_word (codes "unit") _ refl (a_name part.unit _ fits.1
+      at_start (codes "table") _ refl
+      (a_name part.name _ fits.0 (a_word (codes "unit") _ refl (a_name part.unit _ fits.1
       (a_word (codes "elements") _ refl (names_flow part.elements [] fits.2 nothing)))))
   kind_writable (Times part) fits =
       at_start (codes "times") _ refl

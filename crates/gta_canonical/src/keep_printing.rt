@@ -1,9 +1,8 @@
 //! Printing the expression of a line `keep`. What is printed is in specs/Canonical.antt, and
 //! specs/Places.antt says which place each of ours is.
-ghost use Rattle.std.specs.Prelude.{◌≡◌, Bool, false, [], ◌∷◌, ◌++◌, OnOk, codes};
+ghost use Rattle.std.specs.Prelude.{◌≡◌, [], ◌++◌, OnOk};
 ghost use Rattle.gta_spec.specs.Keep.{encloses_both, encloses_either};
-ghost use Rattle.gta_spec.specs.Parts.{keep_tree, kind_tree};
-ghost use Rattle.gta_spec.specs.Parts.{Keep};
+ghost use Rattle.gta_spec.specs.Parts.{Keep, keep_tree};
 ghost use Rattle.gta_canonical.specs.Canonical.{line_text, open_front, close_front, keep_front, kind_front};
 ghost use Rattle.gta_canonical.specs.Places.{place_of};
 
@@ -11,7 +10,7 @@ use crate::printing::{put_behind, put_spaced};
 use gta_spec::KeepPart;
 use std::alloc::AllocError;
 
-/// Where an expression stands: as a whole or before an `or`, beside an `or` or before an `and`, or
+/// Where an expression stands: as a whole or before an `or`; behind an `or` or before an `and`; or
 /// behind an `and` or a `not`.
 #[derive(Clone, Copy)]
 pub(crate) enum Place {
@@ -59,12 +58,7 @@ fn put_close(out: &mut Vec<u8>, enclosed: bool) -> Result<(), AllocError>
 }
 
 /// The expression as it stands at the place, behind a space or not.
-fn put_keep(
-    out: &mut Vec<u8>,
-    place: Place,
-    glued: bool,
-    keep: &KeepPart,
-) -> Result<(), AllocError>
+fn put_keep(out: &mut Vec<u8>, place: Place, glued: bool, keep: &KeepPart) -> Result<(), AllocError>
     ensures { OnOk result (out.new.items ≡ out.old.items
         ++ line_text (keep_front (place_of place) glued (keep_tree keep.now) [])) }
 {
