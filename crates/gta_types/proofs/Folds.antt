@@ -9,7 +9,7 @@ use Rattle.std.proofs.lemmas.List.{length-map}
 use Rattle.std.proofs.lemmas.List.Elements.{All-nil, All-cons}
 use Rattle.gta_spec.specs.declared.limits.TheConstants.{ATOM_LIMIT, CASE_LIMIT}
 use Rattle.gta_spec.specs.Parts.{PickTree, TableTree, KindTree, Columns, Labels, Measure, Table, Times}
-use Rattle.gta_spec.specs.Parts.{Generate, Test, Aggregate, Fold, PartTree}
+use Rattle.gta_spec.specs.Parts.{Generate, Test, Named, Keep, Aggregate, Fold, PartTree}
 use Rattle.gta_spec.specs.WellFormed.{EachFits}
 use Rattle.gta_checked.specs.Plain.{NamedTable}
 use Rattle.gta_checked.specs.Within.{IsPickWithin, IsFoldWithin}
@@ -40,6 +40,8 @@ one_line x (Table part) o tables rest =
 one_line x (Times part) o tables rest = rest
 one_line x (Generate shape) o tables rest = rest
 one_line x (Test test) o tables rest = rest
+one_line x (Named name test) o tables rest = rest
+one_line x (Keep keep) o tables rest = rest
 one_line x (Aggregate goal) o tables rest = rest
 
 first_elements : (x : List ℕ) (before parts : List PartTree)

@@ -11,13 +11,14 @@ use Rattle.std.proofs.lemmas.Bool.{false≢true, cases_Bool, cases_lt, or_cases}
 use Rattle.std.proofs.lemmas.Option.{none-some, same_Some}
 use Rattle.gta_spec.specs.declared.parts.ColumnItem.{ColumnItem}
 use Rattle.gta_spec.specs.Parts.{KindTree, Columns, Labels, Measure, Table, Times, Generate, Test}
-use Rattle.gta_spec.specs.Parts.{Aggregate, TableTree, PartTree}
+use Rattle.gta_spec.specs.Parts.{Named, Keep, Aggregate, TableTree, PartTree}
 use Rattle.gta_types.specs.declared.declaring.NameKind.{NameKind}
-use Rattle.gta_types.specs.declared.declaring.NameKind.TheVariants.{AColumn, ALabel, AMeasure, ATable, AnElement}
+use Rattle.gta_types.specs.declared.declaring.NameKind.TheVariants.{AColumn, ALabel, AMeasure, ATable, ATest, AnElement}
 use Rattle.gta_types.specs.Names.{Declaration, declare, declarations_of, declarations}
 use Rattle.gta_types.specs.Names.{declaration_of, declared_as, is_element, is_of, same_kind}
 use Rattle.spec_tables.specs.Tables.{number_of, table_parts, tables_in}
-use Rattle.gta_types.specs.Resolved.{column_items, label_names, measure_names, TableNames, table_names, environment}
+use Rattle.gta_types.specs.Resolved.{column_items, label_names, measure_names, test_names}
+use Rattle.gta_types.specs.Resolved.{TableNames, table_names, environment}
 use Rattle.gta_types.proofs.Looked.{called, option_cases, line_of_map, table_hit}
 use Rattle.spec_tables.proofs.NumberOf.{number_of-append-past, number_of-append-within}
 
@@ -114,6 +115,10 @@ column_here x line (Table part) d e same =
 column_here x line (Times part) d e same = absurd (none-some d e)
 column_here x line (Generate shape) d e same = absurd (none-some d e)
 column_here x line (Test test) d e same = absurd (none-some d e)
+column_here x line (Named name test) d e same =
+    absurd (other_kind AColumn ATest d.kind
+    (line_of_map (called x) line ATest (λ (x : List ℕ). x) (name ∷ []) d e).1 refl same)
+column_here x line (Keep keep) d e same = absurd (none-some d e)
 column_here x line (Aggregate goal) d e same = absurd (none-some d e)
 
 label_here : (x : List ℕ) (line : ℕ) (kind : KindTree) (d : Declaration)
@@ -131,6 +136,10 @@ label_here x line (Table part) d e same =
 label_here x line (Times part) d e same = absurd (none-some d e)
 label_here x line (Generate shape) d e same = absurd (none-some d e)
 label_here x line (Test test) d e same = absurd (none-some d e)
+label_here x line (Named name test) d e same =
+    absurd (other_kind ALabel ATest d.kind
+    (line_of_map (called x) line ATest (λ (x : List ℕ). x) (name ∷ []) d e).1 refl same)
+label_here x line (Keep keep) d e same = absurd (none-some d e)
 label_here x line (Aggregate goal) d e same = absurd (none-some d e)
 
 measure_here : (x : List ℕ) (line : ℕ) (kind : KindTree) (d : Declaration)
@@ -149,6 +158,10 @@ measure_here x line (Table part) d e same =
 measure_here x line (Times part) d e same = absurd (none-some d e)
 measure_here x line (Generate shape) d e same = absurd (none-some d e)
 measure_here x line (Test test) d e same = absurd (none-some d e)
+measure_here x line (Named name test) d e same =
+    absurd (other_kind AMeasure ATest d.kind
+    (line_of_map (called x) line ATest (λ (x : List ℕ). x) (name ∷ []) d e).1 refl same)
+measure_here x line (Keep keep) d e same = absurd (none-some d e)
 measure_here x line (Aggregate goal) d e same = absurd (none-some d e)
 
 table_here : (x : List ℕ) (line : ℕ) (kind : KindTree) (d : Declaration)
@@ -167,7 +180,31 @@ table_here x line (Table part) d e same = rw (table_hit line part.name x part.el
 table_here x line (Times part) d e same = absurd (none-some d e)
 table_here x line (Generate shape) d e same = absurd (none-some d e)
 table_here x line (Test test) d e same = absurd (none-some d e)
+table_here x line (Named name test) d e same =
+    absurd (other_kind ATable ATest d.kind
+    (line_of_map (called x) line ATest (λ (x : List ℕ). x) (name ∷ []) d e).1 refl same)
+table_here x line (Keep keep) d e same = absurd (none-some d e)
 table_here x line (Aggregate goal) d e same = absurd (none-some d e)
+
+test_here : (x : List ℕ) (line : ℕ) (kind : KindTree) (d : Declaration)
+    → find (called x) (declarations_of line kind) ≡ Some d → same_kind ATest d.kind ≡ true → IsIn x (test_names kind)
+test_here x line (Columns items) d e same =
+    absurd (other_kind ATest AColumn d.kind
+    (line_of_map (called x) line AColumn (λ (item : ColumnItem). item.name) items d e).1 refl same)
+test_here x line (Labels xs) d e same =
+    absurd (other_kind ATest ALabel d.kind (line_of_map (called x) line ALabel
+    (λ (x : List ℕ). x) xs d e).1 refl same)
+test_here x line (Measure part) d e same =
+    absurd (other_kind ATest AMeasure d.kind
+    (line_of_map (called x) line AMeasure (λ (x : List ℕ). x) (part.name ∷ []) d e).1 refl same)
+test_here x line (Table part) d e same =
+    absurd (table_line (called x) ATest line part.name part.elements d e refl refl same)
+test_here x line (Times part) d e same = absurd (none-some d e)
+test_here x line (Generate shape) d e same = absurd (none-some d e)
+test_here x line (Test test) d e same = absurd (none-some d e)
+test_here x line (Named name test) d e same = named_in line ATest (λ (x : List ℕ). x) x (name ∷ []) d e
+test_here x line (Keep keep) d e same = absurd (none-some d e)
+test_here x line (Aggregate goal) d e same = absurd (none-some d e)
 
 map-flat_map : {A B C : Type 0} (h : B → C) (f : A → List B) (xs : List A)
     → map h (flat_map f xs) ≡ flat_map (λ x. map h (f x)) xs
@@ -205,3 +242,7 @@ weight_in parts x known =
       | inr h ↦ in_back (environment parts).columns (environment parts).measures x
           (declared_in AMeasure measure_names x (measure_here x) parts h)
     ]
+
+pub test_in : (parts : List PartTree) (x : List ℕ) → is_of ATest (declared_as parts x) ≡ true
+    → IsIn x (environment parts).tests
+test_in parts x known = declared_in ATest test_names x (test_here x) parts known

@@ -1,7 +1,7 @@
 -- Names in scopes: when two are the same, and what an index has after one more. Of any lists, and at the end of an
 -- index.
 use Rattle.std.proofs.Common.{◌≡◌, ℕ, Bool, true, false, ◌&&◌, nat_eq, List, [], ◌∷◌, Option, Some, None}
-use Rattle.std.proofs.Common.{is_some, cond, refl, sym, ◌∙◌, inl, inr, ◌⊎◌}
+use Rattle.std.proofs.Common.{cond, refl, sym, ◌∙◌, inl, inr, ◌⊎◌}
 use Rattle.std.proofs.Common.{Ordering, Less, Equal, Greater, nat_cmp, is_eq, ap}
 use Rattle.std.specs.Option.{option_or}
 use Rattle.std.specs.Str.{bytes_eq}

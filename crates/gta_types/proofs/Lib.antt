@@ -7,6 +7,7 @@ pub mod Rules
 pub mod InRange
 pub mod Tables
 pub mod Within
+pub mod KeptTests
 pub mod Folds
 pub mod Accepted
 pub mod Whole

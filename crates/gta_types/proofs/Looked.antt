@@ -10,11 +10,11 @@ use Rattle.std.proofs.lemmas.Bool.{eq-eqb, ne_eqb, false≢true, cases_Bool}
 use Rattle.std.proofs.lemmas.Option.{none-some, same_Some, cond_some}
 use Rattle.gta_spec.specs.declared.parts.ColumnItem.{ColumnItem}
 use Rattle.gta_spec.specs.Parts.{KindTree, Columns, Labels, Measure, Table, Times, Generate, Test}
-use Rattle.gta_spec.specs.Parts.{Aggregate, PartTree}
-use Rattle.gta_spec.specs.WellFormed.{FitParts}
+use Rattle.gta_spec.specs.Parts.{Named, Keep, Aggregate, PartTree}
+use Rattle.gta_types.specs.Ready.{Ascend}
 use Rattle.spec_rules.specs.SpecRules.{first_answer}
 use Rattle.gta_types.specs.declared.declaring.NameKind.{NameKind}
-use Rattle.gta_types.specs.declared.declaring.NameKind.TheVariants.{AColumn, ALabel, AMeasure, ATable, AnElement}
+use Rattle.gta_types.specs.declared.declaring.NameKind.TheVariants.{AColumn, ALabel, AMeasure, ATable, ATest, AnElement}
 use Rattle.gta_types.specs.declared.names.Found.{Found}
 use Rattle.gta_types.specs.declared.names.Names.{Names}
 use Rattle.gta_types.specs.Names.{Declaration, declare, declarations_of, declarations, is_element}
@@ -82,16 +82,18 @@ none_of_line l line x (Table part) ne =
 none_of_line l line x (Times part) ne = refl
 none_of_line l line x (Generate shape) ne = refl
 none_of_line l line x (Test test) ne = refl
+none_of_line l line x (Named name test) ne = rw (apart l line x name ATest ne) refl
+none_of_line l line x (Keep keep) ne = refl
 none_of_line l line x (Aggregate goal) ne = refl
 
-none_later : (l low : ℕ) (x : List ℕ) (parts : List PartTree) → l < low → FitParts low parts
+none_later : (l low : ℕ) (x : List ℕ) (parts : List PartTree) → l < low → Ascend low parts
     → list_any (is_named (l + 1) x) (declarations parts) ≡ false
 none_later l low x [] lt fits = refl
 none_later l low x (part ∷ parts) lt fits =
     list_any-append (is_named (l + 1) x) (declarations_of part.line part.kind) (declarations parts)
     ∙ rw (
       none_of_line l part.line x part.kind (λ h. omega (arith, fits.0)),
-      none_later l (part.line + 1) x parts (omega (arith, fits.0)) fits.2,
+      none_later l (part.line + 1) x parts (omega (arith, fits.0)) fits.1,
     ) refl
 
 -- a declaration that is found on a line has its number
@@ -162,6 +164,10 @@ table_here line (Table part) t d e same =
 table_here line (Times part) t d e same = absurd (none-some d e)
 table_here line (Generate shape) t d e same = absurd (none-some d e)
 table_here line (Test test) t d e same = absurd (none-some d e)
+table_here line (Named name test) t d e same =
+    absurd (kind_differs ATest d.kind
+    (line_of_map (called t) line ATest (λ (x : List ℕ). x) (name ∷ []) d e).1 refl same)
+table_here line (Keep keep) t d e same = absurd (none-some d e)
 table_here line (Aggregate goal) t d e same = absurd (none-some d e)
 
 no_table_here : (line : ℕ) (kind : KindTree) (t : List ℕ) → find (called t) (declarations_of line kind) ≡ None
@@ -179,6 +185,8 @@ no_table_here line (Table part) t e =
 no_table_here line (Times part) t e = refl
 no_table_here line (Generate shape) t e = refl
 no_table_here line (Test test) t e = refl
+no_table_here line (Named name test) t e = refl
+no_table_here line (Keep keep) t e = refl
 no_table_here line (Aggregate goal) t e = refl
 
 line_here : (p : Declaration → Bool) (line : ℕ) (kind : KindTree) (d : Declaration)
@@ -196,13 +204,15 @@ line_here p line (Table part) d e =
 line_here p line (Times part) d e = absurd (none-some d e)
 line_here p line (Generate shape) d e = absurd (none-some d e)
 line_here p line (Test test) d e = absurd (none-some d e)
+line_here p line (Named name test) d e = (line_of_map p line ATest (λ (x : List ℕ). x) (name ∷ []) d e).0
+line_here p line (Keep keep) d e = absurd (none-some d e)
 line_here p line (Aggregate goal) d e = absurd (none-some d e)
 
 pub option_cases : {A : Type 0} (o : Option A) → (o ≡ None) ⊎ ((x : A) × (o ≡ Some x))
 option_cases None = inl refl
 option_cases (Some x) = inr (x, refl)
 
-line_after : (p : Declaration → Bool) (low : ℕ) (parts : List PartTree) (d : Declaration) → FitParts low parts
+line_after : (p : Declaration → Bool) (low : ℕ) (parts : List PartTree) (d : Declaration) → Ascend low parts
     → find p (declarations parts) ≡ Some d → low ≤ d.line
 line_after p low [] d fits e = absurd (none-some d e)
 line_after p low (part ∷ parts) d fits e =
@@ -211,14 +221,14 @@ line_after p low (part ∷ parts) d fits e =
     sym (find-append p (declarations_of part.line part.kind) (declarations parts)) ∙ e in
     elim (option_cases here) [
       | inl none ↦ (let later : find p (declarations parts) ≡ Some d = rw none at joined in
-          let after : part.line + 1 ≤ d.line = line_after p (part.line + 1) parts d fits.2 later in omega
+          let after : part.line + 1 ≤ d.line = line_after p (part.line + 1) parts d fits.1 later in omega
           (arith, fits.0))
       | inr some ↦ (let found : Some some.0 ≡ Some d = rw some.1 at joined in
           let line : d.line ≡ part.line = ap (λ (x : Declaration). x.line) (sym (same_Some _ _ found))
           ∙ line_here p part.line part.kind some.0 some.1 in omega (arith, fits.0))
     ]
 
-pub elements_found : (t x : List ℕ) (low : ℕ) (before parts : List PartTree) (d : Declaration) → FitParts low parts
+pub elements_found : (t x : List ℕ) (low : ℕ) (before parts : List PartTree) (d : Declaration) → Ascend low parts
     → find (called t) (declarations parts) ≡ Some d → same_kind ATable d.kind ≡ true
     → list_any (is_named (d.line + 1) x) (declarations parts)
     ≡ is_one_of (listed (first_answer (λ (before : List PartTree)
@@ -232,16 +242,16 @@ elements_found t x low before (part ∷ parts) d fits e same =
     list_any-append (is_named (d.line + 1) x) ds (declarations parts)
     ∙ elim (option_cases here) [
       | inl none ↦ (let later : find (called t) (declarations parts) ≡ Some d = rw none at joined in
-          let after : part.line + 1 ≤ d.line = line_after (called t) (part.line + 1) parts d fits.2 later in
+          let after : part.line + 1 ≤ d.line = line_after (called t) (part.line + 1) parts d fits.1 later in
           rw (none_of_line d.line part.line x part.kind (λ h. omega arith), no_table_here part.line part.kind t none)
-          (elements_found t x (part.line + 1) (before ++ part ∷ []) parts d fits.2 later same))
+          (elements_found t x (part.line + 1) (before ++ part ∷ []) parts d fits.1 later same))
       | inr some ↦ (let found : some.0 ≡ d = same_Some _ _ (rw some.1 at joined) in
           let table = table_here part.line part.kind t d (some.1 ∙ ap Some found) same in
           rw (
             table.on_line,
             table.there _,
             table.elements x,
-            none_later part.line (part.line + 1) x parts (omega arith) fits.2,
+            none_later part.line (part.line + 1) x parts (omega arith) fits.1,
           )
           (or_false (is_one_of (listed (table_elements part.kind t)) x)))
     ]
@@ -264,7 +274,7 @@ module _ (index : Names) (parts : List PartTree) (known : IsIndex index (declara
   element_at x line = ap (λ (o : Option Found). is_some o) (known (line + 1) x)
       ∙ is_some-mapped_find found_of (is_named (line + 1) x) (declarations parts)
 
-  element_known : (low : ℕ) → FitParts low parts → (t x : List ℕ)
+  element_known : (low : ℕ) → Ascend low parts → (t x : List ℕ)
       → has_element index (known_at index 0 t) x ≡ is_known parts (names.ElementOf t) x
   element_known low fits t x =
       ap (λ (o : Option Found). has_element index o x) (shared_at t)
@@ -283,17 +293,18 @@ module _ (index : Names) (parts : List PartTree) (known : IsIndex index (declara
             | inr other ↦ rw other refl
           ]
 
-  known_by-is_known : (low : ℕ) → FitParts low parts → (wanted : Wanted) (x : List ℕ)
+  known_by-is_known : (low : ℕ) → Ascend low parts → (wanted : Wanted) (x : List ℕ)
       → known_by index wanted x ≡ is_known parts wanted x
   known_by-is_known low fits names.Column x = ap (is_of AColumn) (kind_at-declared_as x)
   known_by-is_known low fits names.Label x = ap (is_of ALabel) (kind_at-declared_as x)
   known_by-is_known low fits names.Weight x =
       ap (λ (o : Option NameKind). is_of AColumn o || is_of AMeasure o) (kind_at-declared_as x)
   known_by-is_known low fits names.TableName x = ap (is_of ATable) (kind_at-declared_as x)
+  known_by-is_known low fits names.TestName x = ap (is_of ATest) (kind_at-declared_as x)
   known_by-is_known low fits (names.ElementOf t) x = element_known low fits t x
   known_by-is_known low fits (names.OneOf xs) x = refl
 
-  pub unknown_in-uses : (low : ℕ) → FitParts low parts
+  pub unknown_in-uses : (low : ℕ) → Ascend low parts
       → unknown_in index (uses parts) ≡ option_map used_place (unknown_use parts)
   unfolding unknown_in
   unknown_in-uses low fits =

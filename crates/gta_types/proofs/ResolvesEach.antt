@@ -29,6 +29,8 @@ resolves_each spec well no_fault =
       measures = refl;
       tables = refl;
       tests = refl;
+      named = refl;
+      keep = refl;
       shape = first_alone Sublists _ (one_shape_there spec.parts sound);
       goal = first_alone Count _ (one_goal_there spec.parts sound);
     }

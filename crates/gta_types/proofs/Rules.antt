@@ -129,17 +129,19 @@ all_once before [] e = tt
 all_once before (part ∷ parts) e =
     let h = option_or_none _ _ e in
     let each = none_found (λ single. is_single single part && list_any (is_single single) before)
-    (singles.Columns ∷ singles.Labels ∷ singles.Generate ∷ singles.Aggregate ∷ []) (mapped_none _ _ h.0) in
+    (singles.Columns ∷ singles.Labels ∷ singles.Generate ∷ singles.Aggregate ∷ singles.Keep ∷ [])
+    (mapped_none _ _ h.0) in
     (once before part each, all_once (before ++ part ∷ []) parts h.1)
   where
     once : (before : List PartTree) (part : PartTree)
         → EachFits (λ single. (is_single single part && list_any (is_single single) before) ≡ false)
-        (singles.Columns ∷ singles.Labels ∷ singles.Generate ∷ singles.Aggregate ∷ [])
+        (singles.Columns ∷ singles.Labels ∷ singles.Generate ∷ singles.Aggregate ∷ singles.Keep ∷ [])
         → (single : SinglePart) → (is_single single part && list_any (is_single single) before) ≡ false
     once before part each singles.Columns = each.0
     once before part each singles.Labels = each.1.0
     once before part each singles.Generate = each.1.1.0
     once before part each singles.Aggregate = each.1.1.1.0
+    once before part each singles.Keep = each.1.1.1.1.0
 
 -- the one line that is a part, of which g gives nothing elsewhere
 pub record IsOnly {A : Type 0} (P : PartTree → Type 0) (single : SinglePart) (g : KindTree → List A)

@@ -1,10 +1,10 @@
 -- The first unknown use of joined lists of uses, and of the uses of each item of a list.
-use Rattle.std.proofs.Common.{◌≡◌, ℕ, ◌+◌, ◌<◌, List, [], ◌∷◌, ◌++◌, take, drop, length, get_or}
+use Rattle.std.proofs.Common.{◌≡◌, ℕ, ◌+◌, ◌<◌, List, [], ◌∷◌, ◌++◌, take, drop, length, get_or, map}
 use Rattle.std.proofs.Common.{true, false, is_some, Option, Some, None, option_map, refl, sym, ap}
 use Rattle.std.proofs.Common.{◌∙◌, not}
 use Rattle.std.specs.Option.{option_or}
 use Rattle.std.specs.List.{flat_map}
-use Rattle.std.proofs.lemmas.List.{append-nil}
+use Rattle.std.proofs.lemmas.List.{append-nil, map-append}
 use Rattle.std.proofs.lemmas.Bool.{false≢true}
 use Rattle.std.proofs.lemmas.List.Folds.{find-append}
 use Rattle.std.proofs.lemmas.Grind.{flat_map-append}
@@ -77,3 +77,16 @@ pub unknown_back : (names : Names) (us vs : List Use) (found : Option Place) (o 
     → o ≡ unknown_in names (us ++ vs)
 unknown_back names us vs None o here absent rest = rest ∙ sym (unknown_in-append names us vs ∙ rw (sym here) refl)
 unknown_back names us vs (Some p) o here absent rest = absurd (false≢true absent)
+
+module _ {A : Type 0} (names : Names) (f : A → Use) (xs ys : List A) where
+  pub unknown_mapped_front : (found : Option Place) → option_map place found ≡ unknown_in names (map f xs)
+      → true ≡ is_some found → option_map place found ≡ unknown_in names (map f (xs ++ ys))
+  unknown_mapped_front found here there =
+      unknown_front names (map f xs) (map f ys) found here there ∙ ap (unknown_in names) (sym (map-append f xs ys))
+
+  pub unknown_mapped_back : (found : Option Place) (o : Option (ℕ × List ℕ))
+      → option_map place found ≡ unknown_in names (map f xs) → false ≡ is_some found → o ≡ unknown_in names (map f ys)
+      → o ≡ unknown_in names (map f (xs ++ ys))
+  unknown_mapped_back found o here absent rest =
+      unknown_back names (map f xs) (map f ys) found o here absent rest
+      ∙ ap (unknown_in names) (sym (map-append f xs ys))

@@ -1,5 +1,5 @@
 -- What holds of a specification without a fault, and that its resolved form is within the limits.
-use Rattle.std.proofs.Common.{◌≡◌, ◌↔◌, ℕ, ◌≤◌, Bool, true, false, ◌||◌, not, List, [], ◌∷◌, map}
+use Rattle.std.proofs.Common.{◌≡◌, ◌↔◌, ℕ, ◌+◌, ◌≤◌, Bool, true, false, ◌||◌, not, List, [], ◌∷◌, map}
 use Rattle.std.proofs.Common.{length, get_or, Option, Some, None, is_some, refl, sym, ap, ◌∙◌}
 use Rattle.std.proofs.Common.{inl, inr, subst, All, arith}
 use Rattle.std.specs.List.{list_any, flat_map}
@@ -12,8 +12,10 @@ use Rattle.shape_gen.specs.declared.shape.Shape.TheVariants.{Sublists, Assign, P
 use Rattle.gta_spec.specs.declared.limits.TheConstants.{COLUMN_LIMIT, LABEL_LIMIT}
 use Rattle.gta_spec.specs.declared.parts.Part.{Part}
 use Rattle.gta_spec.specs.Parts.{KindTree, Columns, Labels, Measure, Table, Times, Generate, Test}
-use Rattle.gta_spec.specs.Parts.{Aggregate, PartTree, SpecTree, part_tree, kind_tree}
-use Rattle.gta_spec.specs.WellFormed.{EachFits, IsWellFormed}
+use Rattle.gta_spec.specs.Parts.{Named, Keep, Aggregate, PartTree, SpecTree, CaseTree, part_tree, kind_tree}
+use Rattle.gta_text.specs.declared.numbers.TheConstants.{NUMBER_BOUND}
+use Rattle.gta_spec.specs.declared.parts.TermPart.{TermPart}
+use Rattle.gta_spec.specs.WellFormed.{EachFits, FitsQuantity, FitsTerm, FitsCase, FitsKind, FitParts, IsWellFormed}
 use Rattle.gta_checked.specs.declared.resolved.Goal.{Goal}
 use Rattle.gta_checked.specs.Plain.{PlainChecked}
 use Rattle.gta_checked.specs.Within.{IsGoalWithin, IsTableWithin, IsWithinLimits}
@@ -23,9 +25,9 @@ use Rattle.spec_rules.specs.SpecRules.{single_of, is_the, is_single, first_line,
 use Rattle.spec_rules.specs.SpecRules.{labels_assign, rule_fault, is_assign}
 use Rattle.gta_types.specs.Names.{Use, is_known, uses}
 use Rattle.spec_tables.specs.Tables.{tables_in, named_table}
-use Rattle.gta_types.specs.Resolved.{column_items, label_names, environment, shapes_of}
+use Rattle.gta_types.specs.Resolved.{column_items, factor_of, label_names, environment, shapes_of}
 use Rattle.gta_types.specs.Resolved.{goals_of, resolved_goal, measures_of, IsResolved}
-use Rattle.gta_types.specs.Ready.{IsReady}
+use Rattle.gta_types.specs.Ready.{Ascend, AreCasesReady, IsCaseReady, IsFactorReady, IsReady}
 use Rattle.gta_types.specs.Lists.{HasFewNames}
 use Rattle.gta_types.specs.Faults.{name_fault}
 use Rattle.gta_types.proofs.FirstFault.{no_name_fault}
@@ -35,6 +37,7 @@ use Rattle.gta_types.proofs.Rules.{AllOnce, all_once, IsOnly, the_only, none_the
 use Rattle.gta_types.proofs.Within.{column_count, label_count}
 use Rattle.gta_types.proofs.Accepted.{LineFacts, Facts, line_facts, few_measure_names, few_tables, few_tests}
 use Rattle.gta_types.proofs.Accepted.{measures_length, all_measures, all_tests, goal_of_line}
+use Rattle.gta_types.proofs.Accepted.{few_test_names, keep_declared, named_length, tests_length}
 
 -- what holds of lines without a fault
 pub record IsSound (parts : List PartTree) : Type 0 where
@@ -58,7 +61,7 @@ is_sound spec well no_fault kept_rules =
     (singles.Columns ∷ singles.Generate ∷ singles.Aggregate ∷ []) (mapped_none _ _ rules.0) in
     let kept = all_kept [] spec.parts last.1 in
     record {
-      facts = line_facts spec.parts 0 [] spec.parts well.parts kept
+      facts = line_facts spec.parts spec.version 0 [] spec.parts well.parts kept
           (none_found (λ (u : Use). not (is_known spec.parts u.wanted u.name)) (uses spec.parts) names.0);
       kept = kept;
       once = all_once [] spec.parts more.0;
@@ -76,6 +79,8 @@ no_columns_else (Table part) e = refl
 no_columns_else (Times part) e = refl
 no_columns_else (Generate shape) e = refl
 no_columns_else (Test test) e = refl
+no_columns_else (Named name test) e = refl
+no_columns_else (Keep keep) e = refl
 no_columns_else (Aggregate goal) e = refl
 
 no_labels_else : (kind : KindTree) → is_the singles.Labels (single_of kind) ≡ false → label_names kind ≡ []
@@ -86,6 +91,8 @@ no_labels_else (Table part) e = refl
 no_labels_else (Times part) e = refl
 no_labels_else (Generate shape) e = refl
 no_labels_else (Test test) e = refl
+no_labels_else (Named name test) e = refl
+no_labels_else (Keep keep) e = refl
 no_labels_else (Aggregate goal) e = refl
 
 no_shapes_else : (kind : KindTree) → is_the singles.Generate (single_of kind) ≡ false → shapes_of kind ≡ []
@@ -96,6 +103,8 @@ no_shapes_else (Table part) e = refl
 no_shapes_else (Times part) e = refl
 no_shapes_else (Generate shape) e = absurd (false≢true (sym e))
 no_shapes_else (Test test) e = refl
+no_shapes_else (Named name test) e = refl
+no_shapes_else (Keep keep) e = refl
 no_shapes_else (Aggregate goal) e = refl
 
 no_goals_else : (all : List PartTree) (kind : KindTree) → is_the singles.Aggregate (single_of kind) ≡ false
@@ -107,6 +116,8 @@ no_goals_else all (Table part) e = refl
 no_goals_else all (Times part) e = refl
 no_goals_else all (Generate shape) e = refl
 no_goals_else all (Test test) e = refl
+no_goals_else all (Named name test) e = refl
+no_goals_else all (Keep keep) e = refl
 no_goals_else all (Aggregate goal) e = absurd (false≢true (sym e))
 
 few_items : (all : List PartTree) (line : ℕ) (kind : KindTree) → is_the singles.Columns (single_of kind) ≡ true
@@ -118,6 +129,8 @@ few_items all line (Table part) is facts = absurd (false≢true is)
 few_items all line (Times part) is facts = absurd (false≢true is)
 few_items all line (Generate shape) is facts = absurd (false≢true is)
 few_items all line (Test test) is facts = absurd (false≢true is)
+few_items all line (Named name test) is facts = absurd (false≢true is)
+few_items all line (Keep keep) is facts = absurd (false≢true is)
 few_items all line (Aggregate goal) is facts = absurd (false≢true is)
 
 some_labels : (all : List PartTree) (line : ℕ) (kind : KindTree) → is_the singles.Labels (single_of kind) ≡ true
@@ -129,6 +142,8 @@ some_labels all line (Table part) is facts = absurd (false≢true is)
 some_labels all line (Times part) is facts = absurd (false≢true is)
 some_labels all line (Generate shape) is facts = absurd (false≢true is)
 some_labels all line (Test test) is facts = absurd (false≢true is)
+some_labels all line (Named name test) is facts = absurd (false≢true is)
+some_labels all line (Keep keep) is facts = absurd (false≢true is)
 some_labels all line (Aggregate goal) is facts = absurd (false≢true is)
 
 one_shape : (kind : KindTree) → is_the singles.Generate (single_of kind) ≡ true → length (shapes_of kind) ≡ 1
@@ -139,6 +154,8 @@ one_shape (Table part) is = absurd (false≢true is)
 one_shape (Times part) is = absurd (false≢true is)
 one_shape (Generate shape) is = refl
 one_shape (Test test) is = absurd (false≢true is)
+one_shape (Named name test) is = absurd (false≢true is)
+one_shape (Keep keep) is = absurd (false≢true is)
 one_shape (Aggregate goal) is = absurd (false≢true is)
 
 one_goal : (all : List PartTree) (line : ℕ) (kind : KindTree) → is_the singles.Aggregate (single_of kind) ≡ true
@@ -151,6 +168,8 @@ one_goal all line (Table part) is facts = absurd (false≢true is)
 one_goal all line (Times part) is facts = absurd (false≢true is)
 one_goal all line (Generate shape) is facts = absurd (false≢true is)
 one_goal all line (Test test) is facts = absurd (false≢true is)
+one_goal all line (Named name test) is facts = absurd (false≢true is)
+one_goal all line (Keep keep) is facts = absurd (false≢true is)
 one_goal all line (Aggregate goal) is facts = (
   refl,
   λ g e.
@@ -200,6 +219,7 @@ module _ (all : List PartTree) (sound : IsSound all) where
     columns = few_columns;
     labels = few_labels;
     measures = few_measure_names all sound.kept;
+    tests = few_test_names all sound.kept;
   }
 
   pub one_shape_there : length (flat_map (λ (part : PartTree). shapes_of part.kind) all) ≡ 1
@@ -231,6 +251,8 @@ assign_of_shapes (Generate Prefixes) = refl
 assign_of_shapes (Generate Suffixes) = refl
 assign_of_shapes (Generate Segments) = refl
 assign_of_shapes (Test test) = refl
+assign_of_shapes (Named name test) = refl
+assign_of_shapes (Keep keep) = refl
 assign_of_shapes (Aggregate goal) = refl
 
 any_assign : (parts : List PartTree) → list_any (λ (part : PartTree). is_assign part.kind) parts
@@ -274,14 +296,15 @@ assigned_labels all sound shape only =
       ]),
     )
 
-pub within_limits : (spec : SpecTree) → IsSound spec.parts → (checked : PlainChecked) → IsResolved spec checked
-    → All IsTableWithin checked.tables → IsWithinLimits checked
-within_limits spec sound checked resolved tables =
+pub within_limits : (spec : SpecTree) → IsWellFormed spec → IsSound spec.parts → (checked : PlainChecked)
+    → IsResolved spec checked → All IsTableWithin checked.tables → IsWithinLimits checked
+within_limits spec well sound checked resolved tables =
     let all = spec.parts in
     let m = measures_length all in
     let few_declared = few_measure_names all sound.kept in
     let columns = length-map (flat_map (λ (part : PartTree). column_items part.kind) all) (λ item. item.name) in
     record {
+      version = rw resolved.version well.version;
       few_columns = rw resolved.columns (few_columns all sound);
       few_labels = rw resolved.labels (few_labels all sound);
       assigned = rw resolved.labels (assigned_labels all sound checked.shape resolved.shape);
@@ -293,17 +316,56 @@ within_limits spec sound checked resolved tables =
       few_tests = rw resolved.tests (few_tests all sound.kept);
       tests = rw (resolved.columns, resolved.labels, resolved.measures, resolved.tables, resolved.tests)
           (all_tests all sound.facts);
+      each_named = rw (resolved.named, resolved.tests) (named_length all);
+      keep = rw (resolved.keep, resolved.tests, tests_length all) (keep_declared all sound.facts);
       goal = rw resolved.measures (goal_within all sound checked.goal resolved.goal);
     }
 
 -- each line is ready to be resolved
+factor_ready : (version : ℕ) (number : Option ℕ) (name : Option (List ℕ)) → FitsQuantity version number name
+    → factor_of number ≤ NUMBER_BOUND
+factor_ready version None None fits = absurd fits
+factor_ready version None (Some x) fits = omega arith
+factor_ready version (Some n) None fits = fits
+factor_ready version (Some n) (Some x) fits = fits.0
+
+terms_ready : (version : ℕ) (form : List TermPart) → EachFits (FitsTerm version) form → EachFits IsFactorReady form
+terms_ready version [] fits = tt
+terms_ready version (term ∷ form) fits =
+    (factor_ready version term.number term.name fits.0, terms_ready version form fits.1)
+
+cases_ready : (version : ℕ) (cases : List CaseTree) → EachFits (FitsCase version) cases → EachFits IsCaseReady cases
+cases_ready version [] fits = tt
+cases_ready version (case ∷ cases) fits =
+    (terms_ready version case.form fits.0.0.1, cases_ready version cases fits.1)
+
+line_ready : (version : ℕ) (kind : KindTree) → FitsKind version kind → AreCasesReady kind
+line_ready version (Columns items) fits = tt
+line_ready version (Labels xs) fits = tt
+line_ready version (Measure part) fits = cases_ready version part.cases fits.1.1
+line_ready version (Table part) fits = tt
+line_ready version (Times part) fits = tt
+line_ready version (Generate shape) fits = tt
+line_ready version (Test test) fits = tt
+line_ready version (Named name test) fits = tt
+line_ready version (Keep keep) fits = tt
+line_ready version (Aggregate goal) fits = tt
+
 pub all_ready : (all : List PartTree) (parts : List Part) → EachFits (Facts all) (map part_tree parts)
     → EachFits IsReady (map (λ (part : Part). kind_tree part.kind) parts)
 all_ready all [] facts = tt
 all_ready all (part ∷ parts) facts = (
-  record { fits = facts.0.fits; kept = facts.0.kept limits.Kept },
+  record {
+    cases = line_ready facts.0.version (kind_tree part.kind) facts.0.fits;
+    kept = facts.0.kept limits.Kept;
+  },
   all_ready all parts facts.1,
 )
+
+-- lines that the grammar can give ascend
+pub ascending : (version low : ℕ) (parts : List PartTree) → FitParts version low parts → Ascend low parts
+ascending version low [] fits = tt
+ascending version low (part ∷ parts) fits = (fits.0, ascending version (part.line + 1) parts fits.2)
 
 pub the_one : {A : Type 0} (xs : List A) (x : A) → length xs ≡ 1 → x ≡ get_or xs 0 x → x ∷ [] ≡ xs
 the_one [] x len is = absurd (omega (arith, len))

@@ -62,30 +62,32 @@ module _ (all : List PartTree) (line : ℕ) where
       let len = length-map (flat_map (λ (part : PartTree). column_items part.kind) all) (λ item. item.name) in
       omega (arith, within, len)
 
-  factor_within : (minus : Bool) (number : Option ℕ) (name : Option (List ℕ)) → FitsQuantity number name
+  factor_within : (version : ℕ) (minus : Bool) (number : Option ℕ) (name : Option (List ℕ))
+      → FitsQuantity version number name
       → is_quantity_past number name ≡ false → EachFits (Known all) (uses_of_term line name)
       → IsFactorWithin (column_count all) (signed minus (factor_of number))
       (option_map (number_of (environment all).columns) name)
-  factor_within minus None None fits past known = absurd fits
-  factor_within minus None (Some x) fits past known =
+  factor_within version minus None None fits past known = absurd fits
+  factor_within version minus None (Some x) fits past known =
       (column_within x known.0, (let e = nat_abs-signed minus 1 in omega arith))
-  factor_within minus (Some n) None fits past known = rw (nat_abs-signed minus n) fits
-  factor_within minus (Some n) (Some x) fits past known = (
+  factor_within version minus (Some n) None fits past known = rw (nat_abs-signed minus n) fits
+  factor_within version minus (Some n) (Some x) fits past known = (
     column_within x known.0,
     (let e = nat_abs-signed minus n in let few = ltb-false FACTOR_LIMIT n past in omega arith),
   )
 
-  terms_within : (form : List TermPart) → EachFits FitsTerm form → list_any is_factor_past form ≡ false
+  terms_within : (version : ℕ) (form : List TermPart) → EachFits (FitsTerm version) form
+      → list_any is_factor_past form ≡ false
       → EachFits (Known all) (flat_map (λ (term : TermPart). uses_of_term line term.name) form)
       → All (IsTermWithin (column_count all)) (map (resolved_term (environment all)) form)
-  terms_within [] fits past known = All-nil (IsTermWithin (column_count all))
-  terms_within (term ∷ form) fits past known =
+  terms_within version [] fits past known = All-nil (IsTermWithin (column_count all))
+  terms_within version (term ∷ form) fits past known =
       let past_parts = or_false_parts (is_factor_past term) (list_any is_factor_past form) past in
       All-cons (IsTermWithin (column_count all)) (resolved_term (environment all) term)
       (map (resolved_term (environment all)) form)
-      (factor_within term.minus term.number term.name fits.0 past_parts.0
+      (factor_within version term.minus term.number term.name fits.0 past_parts.0
       (each_front (Known all) (uses_of_term line term.name) _ known))
-      (terms_within form fits.1 past_parts.1 (each_back (Known all) (uses_of_term line term.name) _ known))
+      (terms_within version form fits.1 past_parts.1 (each_back (Known all) (uses_of_term line term.name) _ known))
 
   atom_within : (atom : AtomPart) → Known all (use_of_atom line atom)
       → IsAtomWithin (column_count all) (label_count all) (resolved_atom (environment all) atom)
@@ -108,32 +110,32 @@ module _ (all : List PartTree) (line : ℕ) where
     atoms_within cond known,
   )
 
-  case_within : (case : CaseTree) → FitsCase case → is_longer TERM_LIMIT case.form ≡ false
+  case_within : (version : ℕ) (case : CaseTree) → FitsCase version case → is_longer TERM_LIMIT case.form ≡ false
       → is_longer ATOM_LIMIT case.cond ≡ false → list_any is_factor_past case.form ≡ false
       → EachFits (Known all) (uses_of_case line case)
       → IsCaseWithin (column_count all) (label_count all) (resolved_case (environment all) case)
-  case_within case fits terms atoms factors known = record {
+  case_within version case fits terms atoms factors known = record {
     few_terms = (let l = length-map case.form (resolved_term (environment all)) in
         let few = ltb-false TERM_LIMIT (length case.form) terms in omega arith);
-    terms = terms_within case.form fits.0.1 factors
+    terms = terms_within version case.form fits.0.1 factors
         (each_front (Known all) (flat_map (λ (term : TermPart). uses_of_term line term.name) case.form) _ known);
     condition = condition_within case.cond atoms
         (each_back (Known all) (flat_map (λ (term : TermPart). uses_of_term line term.name) case.form) _ known);
   }
 
-  pub cases_within : (cases : List CaseTree) → EachFits FitsCase cases
+  pub cases_within : (version : ℕ) (cases : List CaseTree) → EachFits (FitsCase version) cases
       → list_any (is_longer TERM_LIMIT) (case_forms cases) ≡ false
       → list_any (is_longer ATOM_LIMIT) (case_conditions cases) ≡ false
       → list_any (list_any is_factor_past) (case_forms cases) ≡ false
       → EachFits (Known all) (flat_map (uses_of_case line) cases)
       → All (IsCaseWithin (column_count all) (label_count all)) (map (resolved_case (environment all)) cases)
-  cases_within [] fits terms atoms factors known = All-nil (IsCaseWithin (column_count all) (label_count all))
-  cases_within (case ∷ cases) fits terms atoms factors known =
+  cases_within version [] fits terms atoms factors known = All-nil (IsCaseWithin (column_count all) (label_count all))
+  cases_within version (case ∷ cases) fits terms atoms factors known =
       let t = or_false_parts _ _ terms in let a = or_false_parts _ _ atoms in let f = or_false_parts _ _ factors in
       All-cons (IsCaseWithin (column_count all) (label_count all)) (resolved_case (environment all) case)
       (map (resolved_case (environment all)) cases)
-      (case_within case fits.0 t.0 a.0 f.0 (each_front (Known all) (uses_of_case line case) _ known))
-      (cases_within cases fits.1 t.1 a.1 f.1 (each_back (Known all) (uses_of_case line case) _ known))
+      (case_within version case fits.0 t.0 a.0 f.0 (each_front (Known all) (uses_of_case line case) _ known))
+      (cases_within version cases fits.1 t.1 a.1 f.1 (each_back (Known all) (uses_of_case line case) _ known))
 
 pub check_within : (check : Check) → is_bound_past check ≡ false → is_modulus_past check ≡ false
     → is_residue_past check ≡ false → IsCheckWithin check

@@ -21,6 +21,7 @@ part_word singles.Columns = codes "columns"
 part_word singles.Labels = codes "labels"
 part_word singles.Generate = codes "generate"
 part_word singles.Aggregate = codes "aggregate"
+part_word singles.Keep = codes "keep"
 
 -- the word of a limit
 abbrev pub limit_word : Limit → List ℕ

@@ -12,8 +12,8 @@ use Rattle.gta_types.specs.declared.names.Place.{Place}
 use Rattle.gta_types.specs.declared.uses.Wanted.{Wanted as WantedPart}
 use Rattle.gta_types.specs.declared.uses.Wanted.TheVariants as wants
 use Rattle.gta_types.specs.Names.{Declaration, is_element, Use, Wanted, Column, Label, Weight}
-use Rattle.gta_types.specs.Names.{TableName, ElementOf, OneOf}
-use Rattle.gta_types.specs.declared.declaring.NameKind.TheVariants.{AColumn, ALabel, AMeasure, ATable}
+use Rattle.gta_types.specs.Names.{TableName, TestName, ElementOf, OneOf}
+use Rattle.gta_types.specs.declared.declaring.NameKind.TheVariants.{AColumn, ALabel, AMeasure, ATable, ATest}
 use Rattle.gta_types.specs.Names.{is_of}
 use Rattle.spec_tables.specs.Tables.{is_one_of}
 
@@ -66,6 +66,7 @@ known_by names Column x = is_of AColumn (kind_at names x)
 known_by names Label x = is_of ALabel (kind_at names x)
 known_by names Weight x = is_of AColumn (kind_at names x) || is_of AMeasure (kind_at names x)
 known_by names TableName x = is_of ATable (kind_at names x)
+known_by names TestName x = is_of ATest (kind_at names x)
 known_by names (ElementOf table) x = has_element names (known_at names 0 table) x
 known_by names (OneOf names') x = is_one_of names' x
 
@@ -81,4 +82,5 @@ wanted_of wants.Column = Column
 wanted_of wants.Label = Label
 wanted_of wants.Weight = Weight
 wanted_of wants.TableName = TableName
+wanted_of wants.TestName = TestName
 wanted_of (wants.OneOf names) = OneOf names.now

@@ -8,19 +8,22 @@ use Rattle.gta_spec.specs.declared.parts.AtomPart.{AtomPart}
 use Rattle.gta_spec.specs.declared.parts.AtomPart.TheVariants as atoms
 use Rattle.gta_spec.specs.declared.parts.GoalPart.{GoalPart}
 use Rattle.gta_spec.specs.declared.parts.GoalPart.TheVariants as goals
+use Rattle.gta_spec.specs.declared.parts.RankPart.{RankPart}
 use Rattle.gta_spec.specs.Parts.{CaseTree, PickTree, TestTree, Sum, Length, Fold, KindTree, Columns}
 use Rattle.gta_spec.specs.Parts.{Labels, Measure, Table}
-use Rattle.gta_spec.specs.Parts.{Times, Test, Aggregate, PartTree}
+use Rattle.gta_spec.specs.Parts.{Times, Test, Named, Keep, Aggregate, PartTree}
+use Rattle.gta_spec.specs.Keep.{kept_tests}
 use Rattle.spec_rules.specs.SpecRules.{first_answer}
 use Rattle.spec_tables.specs.Tables.{is_one_of}
 use Rattle.gta_types.specs.declared.declaring.NameKind.{NameKind}
-use Rattle.gta_types.specs.declared.declaring.NameKind.TheVariants.{AColumn, ALabel, AMeasure, ATable, AnElement}
+use Rattle.gta_types.specs.declared.declaring.NameKind.TheVariants.{AColumn, ALabel, AMeasure, ATable, ATest, AnElement}
 
 abbrev pub same_kind : NameKind → NameKind → Bool
 same_kind AColumn AColumn = true
 same_kind ALabel ALabel = true
 same_kind AMeasure AMeasure = true
 same_kind ATable ATable = true
+same_kind ATest ATest = true
 same_kind AnElement AnElement = true
 same_kind _ _ = false
 
@@ -39,6 +42,7 @@ declarations_of line (Columns items) = map (λ item. declare line AColumn item.n
 declarations_of line (Labels names) = map (declare line ALabel) names
 declarations_of line (Measure part) = declare line AMeasure part.name ∷ []
 declarations_of line (Table part) = declare line ATable part.name ∷ map (declare line AnElement) part.elements
+declarations_of line (Named name test) = declare line ATest name ∷ []
 declarations_of line _ = []
 
 -- the names that a specification declares, by line and place
@@ -79,6 +83,7 @@ pub data Wanted : Type 0 where
   -- a measure, or a column used as one
   Weight : Wanted
   TableName : Wanted
+  TestName : Wanted
   -- an element of the table of this name; passed over where that is no table
   ElementOf : List ℕ → Wanted
   -- one of these names
@@ -113,12 +118,16 @@ uses_of_test line (Fold table picks accept) =
     use_as line TableName table
     ∷ (flat_map (uses_of_pick line table) picks ++ map (use_as line (ElementOf table)) accept)
 
+abbrev pub use_of_rank : ℕ → RankPart → Use
+use_of_rank line rank = use_as line Weight rank.name
+
 abbrev pub uses_of_goal : ℕ → GoalPart → List Use
 uses_of_goal line goals.Count = []
 uses_of_goal line goals.Any = []
 uses_of_goal line (goals.Max x) = use_as line Weight x ∷ []
 uses_of_goal line (goals.Min x) = use_as line Weight x ∷ []
 uses_of_goal line (goals.Best k greatest x) = use_as line Weight x ∷ []
+uses_of_goal line (goals.Ranked k keys) = map (use_of_rank line) keys
 
 -- the names that a line uses, in their order
 abbrev pub uses_of : ℕ → KindTree → List Use
@@ -127,6 +136,8 @@ uses_of line (Table part) = use_as line (OneOf part.elements) part.unit ∷ []
 uses_of line (Times part) =
     use_as line TableName part.table ∷ map (use_as line (ElementOf part.table)) (part.element ∷ part.products)
 uses_of line (Test test) = uses_of_test line test
+uses_of line (Named name test) = uses_of_test line test
+uses_of line (Keep keep) = map (use_as line TestName) (kept_tests keep)
 uses_of line (Aggregate goal) = uses_of_goal line goal
 uses_of line _ = []
 
@@ -160,6 +171,7 @@ is_known parts Column x = is_of AColumn (declared_as parts x)
 is_known parts Label x = is_of ALabel (declared_as parts x)
 is_known parts Weight x = is_of AColumn (declared_as parts x) || is_of AMeasure (declared_as parts x)
 is_known parts TableName x = is_of ATable (declared_as parts x)
+is_known parts TestName x = is_of ATest (declared_as parts x)
 is_known parts (ElementOf table) x =
     if is_of ATable (declared_as parts table) then is_one_of (elements_of parts table) x else true
 is_known parts (OneOf names) x = is_one_of names x

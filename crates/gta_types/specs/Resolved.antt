@@ -10,15 +10,18 @@ use Rattle.gta_spec.specs.declared.parts.AtomPart.TheVariants as atom_parts
 use Rattle.gta_spec.specs.declared.parts.ColumnItem.{ColumnItem}
 use Rattle.gta_spec.specs.declared.parts.GoalPart.{GoalPart}
 use Rattle.gta_spec.specs.declared.parts.GoalPart.TheVariants as goal_parts
+use Rattle.gta_spec.specs.declared.parts.RankPart.{RankPart}
 use Rattle.gta_spec.specs.declared.parts.TermPart.{TermPart}
 use Rattle.gta_spec.specs.Parts.{CaseTree, TableTree, PickTree, TestTree, Sum, Length, Fold}
 use Rattle.gta_spec.specs.Parts.{KindTree, Columns, Labels, Measure}
-use Rattle.gta_spec.specs.Parts.{Generate, Test, Aggregate, PartTree, SpecTree}
+use Rattle.gta_spec.specs.Parts.{Generate, Test, Named, Keep, Aggregate, PartTree, SpecTree}
+use Rattle.gta_spec.specs.Keep.{KeepTree, keep_map}
 use Rattle.gta_checked.specs.declared.resolved.Term.{Term}
 use Rattle.gta_checked.specs.declared.resolved.Atom.{Atom}
 use Rattle.gta_checked.specs.declared.resolved.Atom.TheVariants as atoms
 use Rattle.gta_checked.specs.declared.resolved.Goal.{Goal}
 use Rattle.gta_checked.specs.declared.resolved.Goal.TheVariants as goals
+use Rattle.gta_checked.specs.declared.resolved.Rank.{Rank}
 use Rattle.gta_checked.specs.Plain.{PlainCase, PlainPick, PlainTest, PlainChecked}
 use Rattle.gta_checked.specs.Plain as plain
 use Rattle.spec_tables.specs.Tables.{number_of, tables_in, named_table}
@@ -35,6 +38,12 @@ abbrev pub measure_names : KindTree → List (List ℕ)
 measure_names (Measure part) = part.name ∷ []
 measure_names _ = []
 
+-- the name of a test, which is empty where it has none; no name is
+abbrev pub test_names : KindTree → List (List ℕ)
+test_names (Test test) = [] ∷ []
+test_names (Named name test) = name ∷ []
+test_names _ = []
+
 -- a table's name, and the names of its elements
 pub record TableNames : Type 0 where
   pub name : List ℕ
@@ -49,6 +58,7 @@ pub record Environment : Type 0 where
   pub labels : List (List ℕ)
   pub measures : List (List ℕ)
   pub tables : List TableNames
+  pub tests : List (List ℕ)
 
 abbrev pub environment : List PartTree → Environment
 environment parts = record {
@@ -56,6 +66,7 @@ environment parts = record {
   labels = flat_map (λ part. label_names part.kind) parts;
   measures = flat_map (λ part. measure_names part.kind) parts;
   tables = map table_names (tables_in parts);
+  tests = flat_map (λ part. test_names part.kind) parts;
 }
 
 abbrev pub elements_listed : Option TableNames → List (List ℕ)
@@ -106,12 +117,16 @@ resolved_test env (Fold table picks accept) =
     (map (resolved_pick env (elements_in env.tables table)) picks)
     (map (number_of (elements_in env.tables table)) accept)
 
+abbrev pub resolved_rank : Environment → RankPart → Rank
+resolved_rank env rank = record { greatest = rank.greatest; measure = number_of_weight env rank.name }
+
 abbrev pub resolved_goal : Environment → GoalPart → Goal
 resolved_goal env goal_parts.Count = goals.Count
 resolved_goal env goal_parts.Any = goals.Any
 resolved_goal env (goal_parts.Max x) = goals.Max (number_of_weight env x)
 resolved_goal env (goal_parts.Min x) = goals.Min (number_of_weight env x)
 resolved_goal env (goal_parts.Best k greatest x) = goals.Best k greatest (number_of_weight env x)
+resolved_goal env (goal_parts.Ranked k keys) = goals.Ranked k (map (resolved_rank env) keys)
 
 -- the measure of a column: its cell
 abbrev pub column_measure : ℕ → List PlainCase
@@ -123,7 +138,24 @@ declared_measures env _ = []
 
 abbrev pub tests_of : Environment → KindTree → List PlainTest
 tests_of env (Test test) = resolved_test env test ∷ []
+tests_of env (Named name test) = resolved_test env test ∷ []
 tests_of env _ = []
+
+-- whether a test has a name
+abbrev pub named_of : KindTree → List Bool
+named_of (Test test) = false ∷ []
+named_of (Named name test) = true ∷ []
+named_of _ = []
+
+-- the expression of a line `keep` over the numbers of its tests
+abbrev pub keeps_of : Environment → KindTree → List (KeepTree ℕ)
+keeps_of env (Keep keep) = keep_map (number_of env.tests) keep ∷ []
+keeps_of env _ = []
+
+-- the first of a list, where there is one
+abbrev pub first_of : {A : Type 0} → List A → Option A
+first_of [] = None
+first_of (x ∷ xs) = Some x
 
 abbrev pub shapes_of : KindTree → List Shape
 shapes_of (Generate shape) = shape ∷ []
@@ -147,5 +179,7 @@ pub record IsResolved (spec : SpecTree) (checked : PlainChecked) : Type 0 where
   pub measures : checked.measures ≡ measures_of spec.parts
   pub tables : checked.tables ≡ map (named_table spec.parts) (tables_in spec.parts)
   pub tests : checked.tests ≡ flat_map (λ part. tests_of (environment spec.parts) part.kind) spec.parts
+  pub named : checked.named ≡ flat_map (λ part. named_of part.kind) spec.parts
+  pub keep : checked.keep ≡ first_of (flat_map (λ part. keeps_of (environment spec.parts) part.kind) spec.parts)
   pub shape : checked.shape ∷ [] ≡ flat_map (λ part. shapes_of part.kind) spec.parts
   pub goal : checked.goal ∷ [] ≡ flat_map (λ part. goals_of (environment spec.parts) part.kind) spec.parts

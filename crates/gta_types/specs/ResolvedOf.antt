@@ -11,8 +11,8 @@ use Rattle.gta_spec.specs.WellFormed.{IsWellFormed}
 use Rattle.spec_tables.specs.Tables.{tables_in, named_table}
 use Rattle.gta_types.specs.declared.fault.CheckFault.{CheckFault}
 use Rattle.gta_types.specs.Faults.{check_fault}
-use Rattle.gta_types.specs.Resolved.{IsResolved, column_items, environment, goals_of, measures_of}
-use Rattle.gta_types.specs.Resolved.{shapes_of, tests_of}
+use Rattle.gta_types.specs.Resolved.{IsResolved, column_items, environment, first_of, goals_of, keeps_of, measures_of}
+use Rattle.gta_types.specs.Resolved.{named_of, shapes_of, tests_of}
 
 -- the first of a list, or what stands in its place
 abbrev pub first_or : {A : Type 0} → A → List A → A
@@ -30,6 +30,8 @@ resolved_of spec =
       measures = measures_of spec.parts;
       tables = map (named_table spec.parts) (tables_in spec.parts);
       tests = flat_map (λ part. tests_of env part.kind) spec.parts;
+      named = flat_map (λ part. named_of part.kind) spec.parts;
+      keep = first_of (flat_map (λ part. keeps_of env part.kind) spec.parts);
       shape = first_or Sublists (flat_map (λ part. shapes_of part.kind) spec.parts);
       goal = first_or Count (flat_map (λ part. goals_of env part.kind) spec.parts);
     }
@@ -50,4 +52,15 @@ ResolvesOnce = (spec : SpecTree) (checked : PlainChecked) → IsResolved spec ch
 pub resolved-is : {spec : SpecTree} {checked : PlainChecked} → IsResolved spec checked → checked ≡ resolved_of spec
 unfolding resolved_of
 resolved-is is =
-    rw (← is.measures, ← is.tables, ← is.tests, ← is.goal, ← is.labels, ← is.columns, ← is.shape, ← is.version) refl
+    rw (
+      ← is.measures,
+      ← is.tables,
+      ← is.tests,
+      ← is.named,
+      ← is.keep,
+      ← is.goal,
+      ← is.labels,
+      ← is.columns,
+      ← is.shape,
+      ← is.version,
+    ) refl

@@ -42,6 +42,7 @@ fn part_word(part: SinglePart) -> &'static [u8]
         SinglePart::Labels => b"labels",
         SinglePart::Generate => b"generate",
         SinglePart::Aggregate => b"aggregate",
+        SinglePart::Keep => b"keep",
     }
 }
 

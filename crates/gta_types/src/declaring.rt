@@ -17,6 +17,7 @@ pub(crate) enum NameKind {
     ALabel,
     AMeasure,
     ATable,
+    ATest,
     AnElement,
 }
 
@@ -79,6 +80,7 @@ fn declare_part<'a>(
             declare_one(all, line, NameKind::ATable, &part.name)?;
             declare_names(all, line, NameKind::AnElement, part.elements.as_slice())
         }
+        PartKind::Named { name, .. } => declare_one(all, line, NameKind::ATest, name),
         _ => Ok(()),
     }
 }

@@ -7,17 +7,19 @@ ghost use Rattle.gta_types.specs.Lists.{environment_of, IsDrafted, IsDraftedMore
 ghost use Rattle.gta_types.specs.Ready.{IsReady};
 
 use crate::lists::Lists;
-use crate::resolving::{resolve_goal, resolve_measure, resolve_test};
-use gta_checked::{Goal, Measure, Test};
+use crate::resolving::{resolve_goal, resolve_keep, resolve_measure, resolve_test};
+use gta_checked::{Goal, Keep, Measure, Test};
 use gta_spec::{Part, PartKind};
 use shape_gen::Shape;
 use std::alloc::{AllocError, Global};
 
-/// The measures, tests, shapes and goals of the lines so far.
+/// The measures, tests, shapes and goals of the lines so far, and the first expression over tests.
 #[derive(Drop)]
 pub(crate) struct Draft {
     pub(crate) measures: Vec<Measure>,
     pub(crate) tests: Vec<Test>,
+    pub(crate) named: Vec<bool>,
+    pub(crate) keep: Option<Keep>,
     pub(crate) shapes: Vec<Shape>,
     pub(crate) goals: Vec<Goal>,
 }
@@ -43,17 +45,29 @@ fn draft_part(
         }
         PartKind::Test(test) => {
             draft.tests.push(resolve_test(alloc, lists, test)?)?;
+            draft.named.push(false)?;
+            Ok(())
+        }
+        PartKind::Named { test, .. } => {
+            draft.tests.push(resolve_test(alloc, lists, test)?)?;
+            draft.named.push(true)?;
+            Ok(())
+        }
+        PartKind::Keep(keep) => {
+            if draft.keep.is_none() {
+                draft.keep = Some(resolve_keep(alloc, lists, keep)?);
+            }
             Ok(())
         }
         PartKind::Aggregate(goal) => {
-            draft.goals.push(resolve_goal(lists, goal))?;
+            draft.goals.push(resolve_goal(alloc, lists, goal)?)?;
             Ok(())
         }
         _ => Ok(()),
     }
 }
 
-/// Adds the measures, tests, shapes and goals of these lines.
+/// Adds the measures, tests, shapes and goals of these lines, and their first expression where none is there.
 pub(crate) fn draft_parts(
     alloc: Global,
     lists: &Lists,

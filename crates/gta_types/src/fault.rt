@@ -16,7 +16,7 @@ pub enum CheckFault {
     Twice { line: u32, name: Name },
     /// There is no line `columns`, `generate` or `aggregate`.
     Missing { part: Name },
-    /// This line is the second `columns`, `labels`, `generate` or `aggregate`.
+    /// This line is the second `columns`, `labels`, `generate`, `aggregate` or `keep`.
     SecondPart { line: u32, part: Name },
     /// `generate assign` without `labels`, on its line, or `labels` without `generate assign`, on its line.
     LabelsAssign { line: u32, assign: bool },

@@ -21,6 +21,7 @@ pub(crate) struct Gathered {
     pub(crate) columns: Vec<ColumnItem>,
     pub(crate) labels: Vec<Name>,
     pub(crate) measures: Vec<Name>,
+    pub(crate) tests: Vec<Name>,
 }
 
 fn copy_of(alloc: Global, name: &Name) -> Result<Name, AllocError>
@@ -72,6 +73,14 @@ fn gather_part(alloc: Global, gathered: &mut Gathered, kind: &PartKind) -> Resul
             gathered.measures.push(copy_of(alloc, &part.name)?)?;
             Ok(())
         }
+        PartKind::Test(_) => {
+            gathered.tests.push(Name::of(alloc, b"")?)?;
+            Ok(())
+        }
+        PartKind::Named { name, .. } => {
+            gathered.tests.push(copy_of(alloc, name)?)?;
+            Ok(())
+        }
         _ => Ok(()),
     }
 }
@@ -83,6 +92,7 @@ fn gather(alloc: Global, parts: &[Part]) -> Result<Gathered, AllocError>
         columns: Vec::new(alloc),
         labels: Vec::new(alloc),
         measures: Vec::new(alloc),
+        tests: Vec::new(alloc),
     };
     for part in parts {
         gather_part(alloc, &mut gathered, &part.kind)?;
@@ -109,11 +119,13 @@ pub(crate) fn lists_of(
         columns,
         labels,
         measures,
+        tests,
     } = gather(alloc, parts)?;
     Ok(Lists {
         columns,
         labels,
         measures,
         tables,
+        tests,
     })
 }

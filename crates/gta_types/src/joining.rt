@@ -34,20 +34,22 @@ pub(crate) fn resolve(alloc: Global, spec: &Spec, tables: Vec<Table>) -> Result<
     let mut draft = Draft {
         measures: column_measures(alloc, columns)?,
         tests: Vec::new(alloc),
+        named: Vec::new(alloc),
+        keep: None,
         shapes: Vec::new(alloc),
         goals: Vec::new(alloc),
     };
     draft_parts(alloc, &lists, &mut draft, parts)?;
     let shape = draft.shapes[0];
-    let goal = draft.goals[0];
+    let goal = draft.goals.remove(0);
     Ok(checked_of(spec.version, lists, draft, shape, goal))
 }
 
 fn checked_of(version: u8, lists: Lists, draft: Draft, shape: Shape, goal: Goal) -> Checked
     requires { IsWithinLimits (plain_checked version lists.columns.items lists.labels.items
-        draft.measures.items lists.tables.items draft.tests.items shape goal) }
+        draft.measures.items lists.tables.items draft.tests.items draft.named.items draft.keep shape goal) }
     ensures { result ≡ plain_checked version lists.columns.items lists.labels.items
-        draft.measures.items lists.tables.items draft.tests.items shape goal }
+        draft.measures.items lists.tables.items draft.tests.items draft.named.items draft.keep shape goal }
 {
     Checked::of(
         version,
@@ -56,6 +58,8 @@ fn checked_of(version: u8, lists: Lists, draft: Draft, shape: Shape, goal: Goal)
         draft.measures,
         lists.tables,
         draft.tests,
+        draft.named,
+        draft.keep,
         shape,
         goal,
     )

@@ -3,8 +3,8 @@
 ghost use Rattle.std.specs.Prelude.{map};
 ghost use Rattle.outcome_kit.specs.Outcome.{Passes};
 ghost use Rattle.gta_spec.specs.Parts.{part_tree};
-ghost use Rattle.gta_spec.specs.WellFormed.{FitParts};
 ghost use Rattle.gta_types.specs.Faults.{fault_in, name_fault};
+ghost use Rattle.gta_types.specs.Ready.{Ascend};
 
 use crate::declaring::declared_in;
 use crate::fault::CheckFault;
@@ -16,7 +16,7 @@ use std::alloc::Global;
 
 /// Looks for the first fault of the names: all uses before the names declared twice.
 pub(crate) fn check_names(alloc: Global, parts: &[Part]) -> Result<(), CheckFault>
-    requires ascend { FitParts 0 (map part_tree parts.now) }
+    requires ascend { Ascend 0 (map part_tree parts.now) }
     ensures tells { Passes fault_in (name_fault (map part_tree parts.now)) result }
 {
     let all = declared_in(alloc, parts)?;

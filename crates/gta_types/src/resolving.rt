@@ -3,21 +3,26 @@
 ghost use Rattle.std.specs.Prelude.{◌≡◌, ℕ, ◌<◌, ◌≤◌, ◌^◌, List, length, map, IfOk, false};
 ghost use Rattle.std.specs.List.{range_with_len};
 ghost use Rattle.monoid_kit.specs.declared.table.TheConstants.{GREATEST_TABLE};
-ghost use Rattle.gta_spec.specs.Parts.{Aggregate, Fold, case_tree, pick_tree, test_tree};
-ghost use Rattle.gta_spec.specs.WellFormed.{EachFits, FitsTerm, FitsCase};
-ghost use Rattle.gta_checked.specs.Plain.{plain_case, plain_measure, plain_pick, plain_test};
+ghost use Rattle.gta_spec.specs.Keep.{keep_map};
+ghost use Rattle.gta_spec.specs.Parts.{Aggregate, Fold, case_tree, keep_tree, pick_tree, test_tree};
+ghost use Rattle.gta_spec.specs.WellFormed.{EachFits};
+ghost use Rattle.gta_checked.specs.Plain.{plain_case, plain_keep, plain_measure, plain_pick, plain_test};
 ghost use Rattle.spec_rules.specs.SpecRules.{is_kept_past};
 ghost use Rattle.spec_tables.specs.Tables.{number_of};
 ghost use Rattle.gta_types.specs.Resolved.{elements_in, number_of_weight, signed, factor_of};
 ghost use Rattle.gta_types.specs.Resolved.{resolved_term, resolved_atom, resolved_case, resolved_pick};
-ghost use Rattle.gta_types.specs.Resolved.{resolved_test, resolved_goal, column_measure};
+ghost use Rattle.gta_types.specs.Resolved.{resolved_test, resolved_rank, resolved_goal, column_measure};
+ghost use Rattle.gta_types.specs.Ready.{IsFactorReady, IsCaseReady};
 ghost use Rattle.gta_types.specs.Lists.{environment_of};
 
 use crate::lists::Lists;
-use gta_checked::{Atom, Case, Goal, Measure, Pick, Table, Term, Test};
-use gta_spec::{AtomPart, CasePart, ColumnItem, GoalPart, PickPart, TermPart, TestPart};
+use gta_checked::{Atom, Case, Goal, Keep, Measure, Pick, Rank, Table, Term, Test};
+use gta_spec::{
+    AtomPart, CasePart, ColumnItem, GoalPart, KeepPart, PickPart, RankPart, TermPart, TestPart,
+};
 use gta_text::Name;
 use spec_tables::number_in;
+use sqlite_items::Items;
 use std::alloc::{AllocError, Global};
 
 /// The number of a column; that of columns where it is none.
@@ -71,7 +76,7 @@ fn factor(minus: bool, number: Option<u64>) -> i64
 }
 
 fn resolve_term(lists: &Lists, term: &TermPart) -> Term
-    requires { FitsTerm term.now }
+    requires { IsFactorReady term.now }
     ensures { result ≡ resolved_term (environment_of lists.now) term.now }
 {
     let column = match &term.name {
@@ -85,7 +90,7 @@ fn resolve_term(lists: &Lists, term: &TermPart) -> Term
 }
 
 fn resolve_form(alloc: Global, lists: &Lists, form: &[TermPart]) -> Result<Vec<Term>, AllocError>
-    requires { EachFits FitsTerm form.now }
+    requires { EachFits IsFactorReady form.now }
     ensures { IfOk result (λ terms. terms.items ≡ map (resolved_term (environment_of lists.now)) form.now) }
 {
     let mut terms = Vec::new(alloc);
@@ -119,7 +124,7 @@ fn resolve_cond(alloc: Global, lists: &Lists, cond: &[AtomPart]) -> Result<Vec<A
 }
 
 fn resolve_case(alloc: Global, lists: &Lists, case: &CasePart) -> Result<Case, AllocError>
-    requires { FitsCase (case_tree case.now) }
+    requires { IsCaseReady (case_tree case.now) }
     ensures { IfOk result (λ done. plain_case done ≡ resolved_case (environment_of lists.now) (case_tree case.now)) }
 {
     let form = resolve_form(alloc, lists, case.form.as_slice())?;
@@ -133,7 +138,7 @@ pub(crate) fn resolve_measure(
     lists: &Lists,
     cases: &[CasePart],
 ) -> Result<Measure, AllocError>
-    requires { EachFits FitsCase (map case_tree cases.now) }
+    requires { EachFits IsCaseReady (map case_tree cases.now) }
     ensures { IfOk result (λ measure. plain_measure measure
         ≡ map (resolved_case (environment_of lists.now)) (map case_tree cases.now)) }
 {
@@ -273,19 +278,72 @@ pub(crate) fn resolve_test(
     }
 }
 
-pub(crate) fn resolve_goal(lists: &Lists, goal: &GoalPart) -> Goal
+/// The expression over the numbers of its tests.
+pub(crate) fn resolve_keep(
+    alloc: Global,
+    lists: &Lists,
+    keep: &KeepPart,
+) -> Result<Keep, AllocError>
+    ensures { IfOk result (λ done. plain_keep done
+        ≡ keep_map (number_of (environment_of lists.now).tests) (keep_tree keep.now)) }
+{
+    match keep {
+        KeepPart::Test(name) => Ok(Keep::Test(number_in(lists.tests.as_slice(), name))),
+        KeepPart::Not(x) => {
+            let x = resolve_keep(alloc, lists, x)?;
+            Ok(Keep::Not(Box::new(alloc, x)?))
+        }
+        KeepPart::Both(x, y) => {
+            let x = resolve_keep(alloc, lists, x)?;
+            let y = resolve_keep(alloc, lists, y)?;
+            Ok(Keep::Both(Box::new(alloc, x)?, Box::new(alloc, y)?))
+        }
+        KeepPart::Either(x, y) => {
+            let x = resolve_keep(alloc, lists, x)?;
+            let y = resolve_keep(alloc, lists, y)?;
+            Ok(Keep::Either(Box::new(alloc, x)?, Box::new(alloc, y)?))
+        }
+    }
+}
+
+fn resolve_ranks(alloc: Global, lists: &Lists, keys: &[RankPart]) -> Result<Items<Rank>, AllocError>
+    ensures { IfOk result (λ ranks. ranks ≡ map (resolved_rank (environment_of lists.now)) keys.now) }
+{
+    let mut ranks = Vec::new(alloc);
+    for rank in keys {
+        ranks.push(Rank {
+            greatest: rank.greatest,
+            measure: weight_number(lists, &rank.name),
+        })?;
+    }
+    Ok(Items::from_vec(ranks))
+}
+
+pub(crate) fn resolve_goal(
+    alloc: Global,
+    lists: &Lists,
+    goal: &GoalPart,
+) -> Result<Goal, AllocError>
     requires { is_kept_past (Aggregate goal.now) ≡ false }
-    ensures { result ≡ resolved_goal (environment_of lists.now) goal.now }
+    ensures { IfOk result (λ done. done ≡ resolved_goal (environment_of lists.now) goal.now) }
 {
     match goal {
-        GoalPart::Count => Goal::Count,
-        GoalPart::Any => Goal::Any,
-        GoalPart::Max(name) => Goal::Max(weight_number(lists, name)),
-        GoalPart::Min(name) => Goal::Min(weight_number(lists, name)),
-        GoalPart::Best { k, greatest, name } => Goal::Best {
+        GoalPart::Count => Ok(Goal::Count),
+        GoalPart::Any => Ok(Goal::Any),
+        GoalPart::Max(name) => Ok(Goal::Max(weight_number(lists, name))),
+        GoalPart::Min(name) => Ok(Goal::Min(weight_number(lists, name))),
+        GoalPart::Best { k, greatest, name } => Ok(Goal::Best {
             k: *k as u32,
             greatest: *greatest,
             measure: weight_number(lists, name),
-        },
+        }),
+        GoalPart::Ranked { k: Some(k), keys } => Ok(Goal::Ranked {
+            k: Some(*k as u32),
+            keys: resolve_ranks(alloc, lists, keys.as_slice())?,
+        }),
+        GoalPart::Ranked { k: None, keys } => Ok(Goal::Ranked {
+            k: None,
+            keys: resolve_ranks(alloc, lists, keys.as_slice())?,
+        }),
     }
 }

@@ -2,16 +2,20 @@
 
 ghost use Rattle.std.specs.Prelude.{◌≡◌, ℕ, List, [], ◌∷◌, map, option_map};
 ghost use Rattle.std.specs.List.{flat_map};
+ghost use Rattle.gta_spec.specs.Keep.{kept_tests};
+ghost use Rattle.gta_spec.specs.Parts.{keep_tree};
 ghost use Rattle.gta_spec.specs.Parts.{case_tree, pick_tree, test_tree, times_tree, kind_tree, part_tree, Fold, Times};
 ghost use Rattle.gta_types.specs.Names.{use_as, uses_of_term, use_of_atom, uses_of_case, uses_of_pick};
-ghost use Rattle.gta_types.specs.Names.{uses_of_test, uses_of_goal, uses_of, uses, is_of, ElementOf};
+ghost use Rattle.gta_types.specs.Names.{use_of_rank, uses_of_test, uses_of_goal, uses_of, uses, is_of};
+ghost use Rattle.gta_types.specs.Names.{ElementOf, TestName};
 ghost use Rattle.spec_tables.specs.Tables.{is_one_of};
 ghost use Rattle.gta_types.specs.Index.{place, known_at, known_by, has_element, unknown_in, wanted_of};
 
 use crate::declaring::NameKind;
 use crate::names::{Found, Names, Place};
 use gta_spec::{
-    AtomPart, CasePart, GoalPart, Part, PartKind, PickPart, TermPart, TestPart, TimesPart,
+    AtomPart, CasePart, GoalPart, KeepPart, Part, PartKind, PickPart, RankPart, TermPart, TestPart,
+    TimesPart,
 };
 use gta_text::Name;
 
@@ -22,6 +26,7 @@ pub(crate) enum Wanted<'a> {
     Label,
     Weight,
     TableName,
+    TestName,
     OneOf(&'a [Name]),
 }
 
@@ -68,6 +73,7 @@ fn is_known<'a>(names: &Names<'a>, wanted: Wanted<'a>, name: &'a Name) -> bool
             is_kind(found, NameKind::AColumn) || is_kind(found, NameKind::AMeasure)
         }
         Wanted::TableName => is_kind(names.look(0, name.bytes()), NameKind::ATable),
+        Wanted::TestName => is_kind(names.look(0, name.bytes()), NameKind::ATest),
         Wanted::OneOf(others) => is_one_of(others, name),
     }
 }
@@ -260,6 +266,35 @@ fn in_test<'a>(names: &Names<'a>, line: u32, test: &'a TestPart) -> Option<Place
     }
 }
 
+fn in_keep<'a>(names: &Names<'a>, line: u32, keep: &'a KeepPart) -> Option<Place<'a>>
+    ensures { option_map place result
+        ≡ unknown_in names.now (map (use_as line TestName) (kept_tests (keep_tree keep.now))) }
+{
+    match keep {
+        KeepPart::Test(name) => unknown(names, line, Wanted::TestName, name),
+        KeepPart::Not(x) => in_keep(names, line, x),
+        KeepPart::Both(x, y) | KeepPart::Either(x, y) => {
+            let found = in_keep(names, line, x);
+            if found.is_some() {
+                return found;
+            }
+            in_keep(names, line, y)
+        }
+    }
+}
+
+fn in_ranks<'a>(names: &Names<'a>, line: u32, keys: &'a [RankPart]) -> Option<Place<'a>>
+    ensures { option_map place result ≡ unknown_in names.now (map (use_of_rank line) keys.now) }
+{
+    for rank in keys {
+        let found = unknown(names, line, Wanted::Weight, &rank.name);
+        if found.is_some() {
+            return found;
+        }
+    }
+    None
+}
+
 fn in_goal<'a>(names: &Names<'a>, line: u32, goal: &'a GoalPart) -> Option<Place<'a>>
     ensures { option_map place result ≡ unknown_in names.now (uses_of_goal line goal.now) }
 {
@@ -269,6 +304,7 @@ fn in_goal<'a>(names: &Names<'a>, line: u32, goal: &'a GoalPart) -> Option<Place
         GoalPart::Max(name) => unknown(names, line, Wanted::Weight, name),
         GoalPart::Min(name) => unknown(names, line, Wanted::Weight, name),
         GoalPart::Best { name, .. } => unknown(names, line, Wanted::Weight, name),
+        GoalPart::Ranked { keys, .. } => in_ranks(names, line, keys.as_slice()),
     }
 }
 
@@ -301,6 +337,8 @@ fn in_part<'a>(names: &Names<'a>, line: u32, kind: &'a PartKind) -> Option<Place
         ),
         PartKind::Times(part) => in_times(names, line, part),
         PartKind::Test(test) => in_test(names, line, test),
+        PartKind::Named { test, .. } => in_test(names, line, test),
+        PartKind::Keep(keep) => in_keep(names, line, keep),
         PartKind::Aggregate(goal) => in_goal(names, line, goal),
         PartKind::Columns(_) => None,
         PartKind::Labels(_) => None,

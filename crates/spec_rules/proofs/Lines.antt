@@ -4,7 +4,7 @@ use Rattle.std.specs.Prelude.{◌||◌, Some, None}
 use Rattle.std.specs.List.{list_any}
 use Rattle.gta_spec.specs.Parts.{PartTree}
 use Rattle.spec_rules.specs.declared.fault.SinglePart.{SinglePart}
-use Rattle.spec_rules.specs.declared.fault.SinglePart.TheVariants.{Columns, Labels, Generate, Aggregate}
+use Rattle.spec_rules.specs.declared.fault.SinglePart.TheVariants.{Columns, Labels, Generate, Aggregate, Keep}
 use Rattle.spec_rules.specs.SpecRules.{is_single, single_of, repeated}
 
 pub any-push : {A : Type 0} (test : A → Bool) (xs : List A) (x : A)
@@ -23,6 +23,7 @@ repeated_part before line Columns is = rw is refl
 repeated_part before line Labels is = rw is refl
 repeated_part before line Generate is = rw is refl
 repeated_part before line Aggregate is = rw is refl
+repeated_part before line Keep is = rw is refl
 
 pub repeated_none : (before : List PartTree) (line : PartTree) → single_of line.kind ≡ None
     → repeated before line ≡ None

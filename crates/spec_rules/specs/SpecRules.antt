@@ -17,7 +17,7 @@ use Rattle.gta_spec.specs.declared.parts.Check.TheVariants.{Compare, Mod}
 use Rattle.gta_spec.specs.declared.parts.GoalPart.TheVariants as goals
 use Rattle.gta_spec.specs.Parts.{CaseTree, PickTree, TestTree, Sum, Length, Fold, KindTree, Columns, Labels, Measure}
 use Rattle.gta_spec.specs.Parts.{Table}
-use Rattle.gta_spec.specs.Parts.{Times, Generate, Test, Aggregate, PartTree, SpecTree}
+use Rattle.gta_spec.specs.Parts.{Times, Generate, Test, Named, Keep, Aggregate, PartTree, SpecTree}
 use Rattle.spec_rules.specs.declared.fault.SinglePart.{SinglePart}
 use Rattle.spec_rules.specs.declared.fault.SinglePart.TheVariants as singles
 use Rattle.spec_rules.specs.declared.fault.Limit.{Limit}
@@ -39,6 +39,8 @@ single_of (Table part) = None
 single_of (Times part) = None
 single_of (Generate shape) = Some singles.Generate
 single_of (Test test) = None
+single_of (Named name test) = None
+single_of (Keep keep) = Some singles.Keep
 single_of (Aggregate goal) = Some singles.Aggregate
 
 abbrev pub same_single : SinglePart → SinglePart → Bool
@@ -46,6 +48,7 @@ same_single singles.Columns singles.Columns = true
 same_single singles.Labels singles.Labels = true
 same_single singles.Generate singles.Generate = true
 same_single singles.Aggregate singles.Aggregate = true
+same_single singles.Keep singles.Keep = true
 same_single _ _ = false
 
 abbrev pub is_the : SinglePart → Option SinglePart → Bool
@@ -65,7 +68,7 @@ missing parts = find (λ part. not (list_any (is_single part) parts))
 abbrev pub repeated : List PartTree → PartTree → Option SinglePart
 repeated before line =
     find (λ part. is_single part line && list_any (is_single part) before)
-    (singles.Columns ∷ singles.Labels ∷ singles.Generate ∷ singles.Aggregate ∷ [])
+    (singles.Columns ∷ singles.Labels ∷ singles.Generate ∷ singles.Aggregate ∷ singles.Keep ∷ [])
 
 -- the fault of a line that repeats a part
 abbrev pub second_at : List PartTree → PartTree → Option RuleFault
@@ -100,6 +103,7 @@ declared_names (Columns items) = map (λ item. item.name) items
 declared_names (Labels names) = names
 declared_names (Measure part) = part.name ∷ []
 declared_names (Table part) = part.name ∷ part.elements
+declared_names (Named name test) = name ∷ []
 declared_names _ = []
 
 abbrev pub header_texts : Option (List ℕ) → List (List ℕ)
@@ -135,6 +139,7 @@ test_conditions (Fold table picks accept) = pick_conditions picks
 abbrev pub conditions : KindTree → List (List AtomPart)
 conditions (Measure part) = case_conditions part.cases
 conditions (Test test) = test_conditions test
+conditions (Named name test) = test_conditions test
 conditions _ = []
 
 -- whether the number before a column is past the limit of factors
@@ -153,6 +158,7 @@ test_checks (Fold table picks accept) = []
 
 abbrev pub checks : KindTree → List Check
 checks (Test test) = test_checks test
+checks (Named name test) = test_checks test
 checks _ = []
 
 abbrev pub is_bound_past : Check → Bool
@@ -167,8 +173,13 @@ abbrev pub is_residue_past : Check → Bool
 is_residue_past (Compare cmp number) = false
 is_residue_past (Mod modulus residue) = nat_le modulus residue
 
+abbrev pub is_number_kept_past : ℕ → Bool
+is_number_kept_past k = nat_lt k 1 || nat_lt KEEP_LIMIT k
+
+-- whether an aggregate keeps none, or more than it may
 abbrev pub is_kept_past : KindTree → Bool
-is_kept_past (Aggregate (goals.Best k greatest name)) = nat_lt k 1 || nat_lt KEEP_LIMIT k
+is_kept_past (Aggregate (goals.Best k greatest name)) = is_number_kept_past k
+is_kept_past (Aggregate (goals.Ranked (Some k) keys)) = is_number_kept_past k
 is_kept_past _ = false
 
 abbrev pub is_longer : {A : Type 0} → ℕ → List A → Bool
@@ -182,8 +193,10 @@ abbrev pub is_table : KindTree → Bool
 is_table (Table part) = true
 is_table _ = false
 
+-- a test, with a name or without
 abbrev pub is_test : KindTree → Bool
 is_test (Test test) = true
+is_test (Named name test) = true
 is_test _ = false
 
 -- how many lines of a kind there are
@@ -195,6 +208,7 @@ abbrev pub earlier : List PartTree → KindTree → ℕ
 earlier before (Measure part) = count_of is_measure before
 earlier before (Table part) = count_of is_table before
 earlier before (Test test) = count_of is_test before
+earlier before (Named name test) = count_of is_test before
 earlier before _ = 0
 
 abbrev pub are_columns_past : KindTree → Bool
@@ -216,6 +230,7 @@ are_picks_past _ = false
 abbrev pub are_cases_past : KindTree → Bool
 are_cases_past (Measure part) = is_longer CASE_LIMIT part.cases
 are_cases_past (Test test) = are_picks_past test
+are_cases_past (Named name test) = are_picks_past test
 are_cases_past _ = false
 
 -- whether a line, with so many of its kind before it, passes a limit

@@ -7,6 +7,7 @@ pub enum SinglePart {
     Labels,
     Generate,
     Aggregate,
+    Keep,
 }
 
 /// A limit of the language, in the order in which they are looked at.

@@ -1,11 +1,13 @@
 //! The limits that one line passes, the first of them in their order.
 
-ghost use Rattle.std.specs.Prelude.{◌≡◌, ℕ, ◌<◌, List, map};
+ghost use Rattle.std.specs.Prelude.{◌≡◌, ℕ, ◌<◌, List, map, Some, None, if◌then◌else◌};
 ghost use Rattle.std.specs.List.{list_any};
 ghost use Rattle.gta_spec.specs.Parts.{case_tree, kind_tree, measure_tree, table_tree, pick_tree, test_tree};
-ghost use Rattle.gta_spec.specs.Parts.{Columns, Labels, Measure, Table, Test, Aggregate, Sum, Length, Fold};
+ghost use Rattle.gta_spec.specs.Parts.{Columns, Labels, Measure, Table, Test, Named, Aggregate, Sum, Length, Fold};
 ghost use Rattle.spec_rules.specs.SpecRules.{case_conditions, case_forms, declared_names, header_texts, headers};
-ghost use Rattle.spec_rules.specs.SpecRules.{is_factor_past, is_longer, passed_limit, pick_conditions};
+ghost use Rattle.spec_rules.specs.SpecRules.{is_factor_past, is_longer, is_number_kept_past};
+ghost use Rattle.spec_rules.specs.SpecRules.{passed_limit, pick_conditions};
+ghost use Rattle.spec_rules.specs.declared.fault.Limit.TheVariants.{Kept};
 
 use crate::fault::Limit;
 use gta_spec::{
@@ -26,8 +28,9 @@ pub(crate) fn passed_limit(count: usize, kind: &PartKind) -> Option<Limit>
         PartKind::Measure(part) => measure_limit(count, part),
         PartKind::Table(part) => table_limit(count, part),
         PartKind::Test(part) => test_limit(count, part),
+        PartKind::Named { name, test } => named_limit(count, name, test),
         PartKind::Aggregate(goal) => goal_limit(goal),
-        PartKind::Times(_) | PartKind::Generate(_) => None,
+        PartKind::Times(_) | PartKind::Generate(_) | PartKind::Keep(_) => None,
     }
 }
 
@@ -170,6 +173,16 @@ fn test_limit(count: usize, part: &TestPart) -> Option<Limit>
     }
 }
 
+fn named_limit(count: usize, name: &Name, part: &TestPart) -> Option<Limit>
+    ensures { result ≡ passed_limit count (Named name.now (test_tree part.now)) }
+{
+    if is_name_past(name) {
+        Some(Limit::Name)
+    } else {
+        test_limit(count, part)
+    }
+}
+
 fn check_limit(check: &Check) -> Option<Limit>
     ensures of_sum { (count : ℕ) (name : List ℕ) → count < TEST_LIMIT
         → result ≡ passed_limit count (Test (Sum name check.now)) }
@@ -218,7 +231,17 @@ fn goal_limit(goal: &GoalPart) -> Option<Limit>
     ensures { (count : ℕ) → result ≡ passed_limit count (Aggregate goal.now) }
 {
     match goal {
-        GoalPart::Best { k, .. } if *k < 1 || *k > KEEP_LIMIT => Some(Limit::Kept),
+        GoalPart::Best { k, .. } | GoalPart::Ranked { k: Some(k), .. } => kept_limit(*k),
         _ => None,
+    }
+}
+
+fn kept_limit(k: u64) -> Option<Limit>
+    ensures { result ≡ if is_number_kept_past k then Some Kept else None }
+{
+    if k < 1 || k > KEEP_LIMIT {
+        Some(Limit::Kept)
+    } else {
+        None
     }
 }

@@ -19,6 +19,7 @@ fn single_of(kind: &PartKind) -> Option<SinglePart>
         PartKind::Labels(_) => Some(SinglePart::Labels),
         PartKind::Generate(_) => Some(SinglePart::Generate),
         PartKind::Aggregate(_) => Some(SinglePart::Aggregate),
+        PartKind::Keep(_) => Some(SinglePart::Keep),
         _ => None,
     }
 }
@@ -104,6 +105,7 @@ pub(crate) struct Seen {
     labels: bool,
     generate: bool,
     aggregate: bool,
+    keep: bool,
 }
 
 impl Seen {
@@ -120,6 +122,7 @@ impl Seen {
             SinglePart::Labels => self.labels,
             SinglePart::Generate => self.generate,
             SinglePart::Aggregate => self.aggregate,
+            SinglePart::Keep => self.keep,
         }
     }
 
@@ -131,6 +134,7 @@ impl Seen {
             SinglePart::Labels => self.labels = true,
             SinglePart::Generate => self.generate = true,
             SinglePart::Aggregate => self.aggregate = true,
+            SinglePart::Keep => self.keep = true,
         }
     }
 }
@@ -144,6 +148,7 @@ pub(crate) fn second_part(parts: &[Part]) -> Option<RuleFault>
         labels: false,
         generate: false,
         aggregate: false,
+        keep: false,
     };
     for line in parts {
         if let Some(part) = single_of(&line.kind) {

@@ -40,6 +40,7 @@ fn limit_fault(parts: &[Part]) -> Option<RuleFault>
             PartKind::Measure(_) => measures,
             PartKind::Table(_) => tables,
             PartKind::Test(_) => tests,
+            PartKind::Named { .. } => tests,
             _ => 0,
         };
         if let Some(limit) = passed_limit(earlier, &part.kind) {
@@ -52,6 +53,7 @@ fn limit_fault(parts: &[Part]) -> Option<RuleFault>
             PartKind::Measure(_) => measures += 1,
             PartKind::Table(_) => tables += 1,
             PartKind::Test(_) => tests += 1,
+            PartKind::Named { .. } => tests += 1,
             _ => {}
         }
     }

@@ -246,4 +246,6 @@ no_table_line (kinds.Table part) other = absurd (other part refl)
 no_table_line (kinds.Times part) other = refl
 no_table_line (kinds.Generate shape) other = refl
 no_table_line (kinds.Test part) other = refl
+no_table_line (kinds.Named name part) other = refl
+no_table_line (kinds.Keep part) other = refl
 no_table_line (kinds.Aggregate part) other = refl

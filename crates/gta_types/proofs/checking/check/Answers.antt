@@ -1,4 +1,4 @@
-use Rattle.std.proofs.Common.{List, Ok, map, rules, sym, ◌∙◌, subst}
+use Rattle.std.proofs.Common.{Ok, map, rules, sym, ◌∙◌, subst}
 use Rattle.outcome_kit.specs.Outcome.{Carries}
 use Rattle.outcome_kit.proofs.Outcomes.{unless-Ok}
 use Rattle.gta_checked.specs.Plain.{plain_named}
@@ -11,9 +11,14 @@ use Rattle.gta_types.specs.declared.fault.CheckFault.TheVariants.{Table}
 use Rattle.gta_types.specs.Faults.{fault_in}
 use Rattle.gta_types.specs.ResolvedOf.{checked_outcome}
 use Rattle.gta_types.proofs.Accepted.{tables_ready}
-use Rattle.gta_types.proofs.Whole.{is_sound}
+use Rattle.gta_types.proofs.Whole.{ascending, is_sound}
 use Rattle.gta_types.proofs.Ends.{end_of_names, end_of_rule, end_of_tables, no_end}
 use Rattle.gta_types.proofs.checking.check.Goals as goal
+
+pub check_names-requires : goal.check_names-requires
+check_names-requires c =
+    let spec = spec_tree c.args.spec.now in
+    record { ascend = rw c.as_slice.ensures.value (ascending spec.version 0 spec.parts c.requires.well_formed.parts) }
 
 pub returns-in_err-check_names-clause-tells : goal.returns-in_err-check_names-clause-tells
 returns-in_err-check_names-clause-tells c =

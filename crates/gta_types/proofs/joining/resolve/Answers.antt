@@ -1,4 +1,4 @@
-use Rattle.std.proofs.Common.{◌≡◌, List, map, length, ap, ◌∙◌, arith}
+use Rattle.std.proofs.Common.{◌≡◌, List, map, length, None, refl, ap, ◌∙◌, arith}
 use Rattle.std.proofs.lemmas.List.{length-map}
 use Rattle.shape_gen.specs.declared.shape.Shape.{Shape}
 use Rattle.gta_spec.specs.declared.parts.ColumnItem.{ColumnItem}
@@ -47,22 +47,26 @@ index-shape-requires c =
     let old : Draft = record {
       measures = c.in_ok-column_measures.field-0;
       tests = c.new.result;
-      shapes = c.new-2.result;
-      goals = c.new-3.result;
+      named = c.new-2.result;
+      keep = None;
+      shapes = c.new-3.result;
+      goals = c.new-4.result;
     } in
     let fresh : IsFresh c.len-columns.result old = record {
       measures = c.in_ok-column_measures.ensures;
       tests = c.new.ensures.items;
-      shapes = c.new-2.ensures.items;
-      goals = c.new-3.ensures.items;
+      named = c.new-2.ensures.items;
+      keep = refl;
+      shapes = c.new-3.ensures.items;
+      goals = c.new-4.ensures.items;
     } in
     let e = shapes_drafted (environment_of c.in_ok-lists.lists) parts c.len-columns.result old c.draft_parts.new.draft
     fresh drafted in
     let l = ap (λ (xs : List Shape). length xs) e ∙ one_shape_there parts sound in
     omega (arith, l)
 
-pub index-goal-requires : goal.index-goal-requires
-index-goal-requires c =
+pub remove-goal-requires : goal.remove-goal-requires
+remove-goal-requires c =
     let parts = map part_tree c.args.spec.now.parts.items in
     let sound = is_sound (spec_tree c.args.spec.now) c.requires.well_formed c.requires.names c.requires.rules in
     let drafted = rw c.as_slice-parts.ensures.value at c.in_ok-draft_parts.ensures in
@@ -70,14 +74,18 @@ index-goal-requires c =
     let old : Draft = record {
       measures = c.in_ok-column_measures.field-0;
       tests = c.new.result;
-      shapes = c.new-2.result;
-      goals = c.new-3.result;
+      named = c.new-2.result;
+      keep = None;
+      shapes = c.new-3.result;
+      goals = c.new-4.result;
     } in
     let fresh : IsFresh c.len-columns.result old = record {
       measures = c.in_ok-column_measures.ensures;
       tests = c.new.ensures.items;
-      shapes = c.new-2.ensures.items;
-      goals = c.new-3.ensures.items;
+      named = c.new-2.ensures.items;
+      keep = refl;
+      shapes = c.new-3.ensures.items;
+      goals = c.new-4.ensures.items;
     } in
     let e = goals_drafted (environment_of c.in_ok-lists.lists) parts c.len-columns.result old c.draft_parts.new.draft
     fresh names drafted in
@@ -98,14 +106,18 @@ checked_of-requires c =
     let old : Draft = record {
       measures = c.in_ok-column_measures.field-0;
       tests = c.new.result;
-      shapes = c.new-2.result;
-      goals = c.new-3.result;
+      named = c.new-2.result;
+      keep = None;
+      shapes = c.new-3.result;
+      goals = c.new-4.result;
     } in
     let fresh : IsFresh c.len-columns.result old = record {
       measures = c.in_ok-column_measures.ensures;
       tests = c.new.ensures.items;
-      shapes = c.new-2.ensures.items;
-      goals = c.new-3.ensures.items;
+      named = c.new-2.ensures.items;
+      keep = refl;
+      shapes = c.new-3.ensures.items;
+      goals = c.new-4.ensures.items;
     } in
     let env = environment_of lists in
     let n = length-map lists.columns.items (λ (item : ColumnItem). item.name) in
@@ -115,12 +127,12 @@ checked_of-requires c =
     let one_shape = the_one new.shapes.items c.index-shape.result.now
     (ap (λ (xs : List Shape). length xs) (shapes_drafted env parts c.len-columns.result old new fresh drafted)
     ∙ one_shape_there parts sound) c.index-shape.ensures in
-    let one_goal = the_one new.goals.items c.index-goal.result.now
+    let one_goal = the_one new.goals.items c.remove-goal.result
     (ap (λ (xs : List Goal). length xs) (goals_drafted env parts c.len-columns.result old new fresh names drafted)
-    ∙ one_goal_there parts sound) c.index-goal.ensures in
-    let whole = is_resolved spec lists c.len-columns.result old new c.index-shape.result.now c.index-goal.result.now
+    ∙ one_goal_there parts sound) c.remove-goal.ensures.value in
+    let whole = is_resolved spec lists c.len-columns.result old new c.index-shape.result.now c.remove-goal.result
     names items count tables fresh drafted one_shape one_goal in
-    within_limits spec sound _ whole lists.tables_within
+    within_limits spec c.requires.well_formed sound _ whole lists.tables_within
 
 pub returns : goal.returns
 returns c =
@@ -136,14 +148,18 @@ returns c =
     let old : Draft = record {
       measures = c.in_ok-column_measures.field-0;
       tests = c.new.result;
-      shapes = c.new-2.result;
-      goals = c.new-3.result;
+      named = c.new-2.result;
+      keep = None;
+      shapes = c.new-3.result;
+      goals = c.new-4.result;
     } in
     let fresh : IsFresh c.len-columns.result old = record {
       measures = c.in_ok-column_measures.ensures;
       tests = c.new.ensures.items;
-      shapes = c.new-2.ensures.items;
-      goals = c.new-3.ensures.items;
+      named = c.new-2.ensures.items;
+      keep = refl;
+      shapes = c.new-3.ensures.items;
+      goals = c.new-4.ensures.items;
     } in
     let env = environment_of lists in
     let n = length-map lists.columns.items (λ (item : ColumnItem). item.name) in
@@ -153,9 +169,9 @@ returns c =
     let one_shape = the_one new.shapes.items c.index-shape.result.now
     (ap (λ (xs : List Shape). length xs) (shapes_drafted env parts c.len-columns.result old new fresh drafted)
     ∙ one_shape_there parts sound) c.index-shape.ensures in
-    let one_goal = the_one new.goals.items c.index-goal.result.now
+    let one_goal = the_one new.goals.items c.remove-goal.result
     (ap (λ (xs : List Goal). length xs) (goals_drafted env parts c.len-columns.result old new fresh names drafted)
-    ∙ one_goal_there parts sound) c.index-goal.ensures in
-    let whole = is_resolved spec lists c.len-columns.result old new c.index-shape.result.now c.index-goal.result.now
+    ∙ one_goal_there parts sound) c.remove-goal.ensures.value in
+    let whole = is_resolved spec lists c.len-columns.result old new c.index-shape.result.now c.remove-goal.result
     names items count tables fresh drafted one_shape one_goal in
     rw c.checked_of.ensures whole

@@ -1,7 +1,6 @@
-use Rattle.std.proofs.Common.{◌≡◌, cond, None, Some, is_some, Option, refl, sym, ap, ◌∙◌}
-use Rattle.gta_types.specs.declared.names.Found.{Found}
+use Rattle.std.proofs.Common.{◌≡◌, None, Some, refl, sym, ◌∙◌}
 use Rattle.gta_types.specs.Index.{known_at}
-use Rattle.gta_types.proofs.Keys.{at_key, equal_keys, kept_at, put_at, same_key}
+use Rattle.gta_types.proofs.Keys.{at_key, equal_keys, kept_at, put_at}
 use Rattle.gta_types.proofs.names.Names.add.Goals as goal
 
 pub returns-in-None-clause-again : goal.returns-in-None-clause-again
