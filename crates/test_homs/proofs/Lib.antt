@@ -1,6 +1,7 @@
 pub mod Firsts
 pub mod Lists
 pub mod Pieces
+pub mod Numbers
 pub mod AddedTotal
 pub mod ComparedLaw
 pub mod RemainderLaw

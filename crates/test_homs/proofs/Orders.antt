@@ -1,10 +1,8 @@
--- Lists in another order: what f gives of their items is in another order too, the same tests hold, and the product of
--- numbers is the same.
-use Rattle.std.proofs.Common.{◌≡◌, ℕ, ◌*◌, Bool, true, ◌&&◌, List, [], ◌∷◌, map, length, get_or}
-use Rattle.std.proofs.Common.{refl, sym, ap, ◌∙◌, arith}
-use Rattle.std.specs.List.{list_all, swap}
+-- Lists in another order: what f gives of their items is in another order too, and the product of numbers is the same.
+use Rattle.std.proofs.Common.{◌≡◌, ℕ, ◌*◌, List, [], ◌∷◌, map, length, get_or}
+use Rattle.std.proofs.Common.{refl, ap, ◌∙◌, arith}
+use Rattle.std.specs.List.{swap}
 use Rattle.std.specs.List.Sorted.{IsPermutation}
-use Rattle.std.proofs.Math.Bool.{and_assoc, and_comm, and-true}
 use Rattle.std.proofs.Math.ListN.{set, get_or-map}
 use Rattle.std.proofs.Math.Nat.{mul_assoc, mul_comm, mul-one, one-mul}
 use Rattle.std.proofs.lemmas.List.{length-map, map-set}
@@ -44,18 +42,6 @@ reordered f xs ys permuted =
       is = ap (λ items. swap items i j) so_far.is ∙ map-swap f so_far.items i j;
     }) ys permuted
 
-conjunction : IsCommutativeMonoidOn (λ (b : Bool). Unit {0}) true (λ a b. a && b)
-conjunction = record {
-  monoid = record {
-    unit_is_element = tt;
-    product_is_element = λ a b a_in b_in. tt;
-    left_identity = λ a a_in. refl;
-    right_identity = λ a a_in. and-true a;
-    associative = λ a b c a_in b_in c_in. and_assoc a b c;
-  };
-  commutative = λ a b a_in b_in. and_comm a b;
-}
-
 multiplication : IsCommutativeMonoidOn (λ (n : ℕ). Unit {0}) 1 (λ a b. a * b)
 multiplication = record {
   monoid = record {
@@ -68,14 +54,6 @@ multiplication = record {
   commutative = λ a b a_in b_in. mul_comm a b;
 }
 
-list_all-product : {X : Type 0} (p : X → Bool) (xs : List X) → list_all p xs ≡ product_by true (λ a b. a && b) p xs
-list_all-product p [] = refl
-list_all-product p (x ∷ xs) = ap (λ b. p x && b) (list_all-product p xs)
-
 module _ {X : Type 0} (xs ys : List X) (permuted : IsPermutation xs ys) where
-  pub list_all-permuted : (p : X → Bool) → list_all p ys ≡ list_all p xs
-  list_all-permuted p =
-      list_all-product p ys ∙ product_by-permuted conjunction p (λ x. tt) xs ys permuted ∙ sym (list_all-product p xs)
-
   pub product-permuted : (f : X → ℕ) → product_by 1 (λ a b. a * b) f ys ≡ product_by 1 (λ a b. a * b) f xs
   product-permuted f = product_by-permuted multiplication f (λ x. tt) xs ys permuted

@@ -1,10 +1,12 @@
 -- Tests put together: keys with a digit for each of them.
-use Rattle.std.specs.Prelude.{◌≡◌, ℕ, ◌≤◌, Bool, true, false, ◌&&◌, List, ◌∷◌}
+use Rattle.std.specs.Prelude.{◌≡◌, ℕ, ◌<◌, ◌≤◌, ◌==◌, Bool, false, if◌then◌else◌, List, ◌∷◌}
 use Rattle.std.specs.Prelude.{All, length, map, slice_index_or}
 use Rattle.std.specs.List.{range_with_len}
 use Rattle.monoid_product.specs.Component.{PlainComponent}
 use Rattle.monoid_product.specs.Product.{AreDigits, key_count, key_of, digits}
 use Rattle.monoid_product.specs.declared.product.TheConstants.{PART_LIMIT}
+use Rattle.gta_checked.specs.Plain.{PlainChecked}
+use Rattle.gta_meaning.specs.Tests.{verdict}
 use Rattle.test_homs.specs.Homs.{PlainTests}
 use Rattle.test_homs.specs.Prepared.{PlainPrepared}
 
@@ -20,9 +22,14 @@ digits_at tests place = map (λ test. slice_index_or test.letters place 0) tests
 abbrev pub HasLetters : ℕ → PlainPrepared → Type 0
 HasLetters count test = length test.letters ≡ count
 
+-- each has the number of one of so many
+abbrev pub AreNumbered : List PlainPrepared → Type 0
+AreNumbered tests = All (λ test. test.number < length tests) tests
+
 -- few tests, with so many letters each, all of them elements
 pub record AreJoinable (count : ℕ) (tests : List PlainPrepared) : Type 0 where
   pub few : length tests ≤ PART_LIMIT
+  pub numbers : AreNumbered tests
   pub letters : All (HasLetters count) tests
   pub digits : (place : ℕ) → AreDigits (components tests) (digits_at tests place)
 
@@ -30,22 +37,29 @@ pub record AreJoinable (count : ℕ) (tests : List PlainPrepared) : Type 0 where
 abbrev pub key_at : List PlainPrepared → ℕ → ℕ
 key_at tests place = key_of (components tests) (digits_at tests place)
 
--- each test accepts its digit
-abbrev pub all_accept : List PlainPrepared → List ℕ → Bool
-all_accept (test ∷ tests) (digit ∷ later) = slice_index_or test.accept digit false && all_accept tests later
-all_accept _ _ = true
+-- whether the test of a number accepts its digit
+abbrev pub outcome_of : List PlainPrepared → List ℕ → ℕ → Bool
+outcome_of (test ∷ tests) (digit ∷ later) number =
+    if test.number == number then slice_index_or test.accept digit false else outcome_of tests later number
+outcome_of _ _ _ = false
 
-abbrev pub key_accepted : List PlainPrepared → ℕ → Bool
-key_accepted tests key = all_accept tests (digits (components tests) key)
+-- what each test comes to by its digit, in the order of their numbers, which is that of the lines
+abbrev pub outcomes_of : List PlainPrepared → List ℕ → List Bool
+outcomes_of tests digits = map (outcome_of tests digits) (range_with_len 0 (length tests))
 
-abbrev pub accepted_keys : List PlainPrepared → List Bool
-accepted_keys tests = map (key_accepted tests) (range_with_len 0 (key_count (components tests)))
+-- the verdict of what the tests come to by the digits of a key
+abbrev pub key_accepted : PlainChecked → List PlainPrepared → ℕ → Bool
+key_accepted checked tests key =
+    verdict checked.keep checked.named (outcomes_of tests (digits (components tests) key))
+
+abbrev pub accepted_keys : PlainChecked → List PlainPrepared → List Bool
+accepted_keys checked tests = map (key_accepted checked tests) (range_with_len 0 (key_count (components tests)))
 
 -- tests with so many letters, together
-abbrev pub joined : ℕ → ℕ → List PlainPrepared → PlainTests
-joined count labels tests = record {
+abbrev pub joined : PlainChecked → ℕ → ℕ → List PlainPrepared → PlainTests
+joined checked count labels tests = record {
   parts = components tests;
   labels = labels;
   letters = map (key_at tests) (range_with_len 0 count);
-  accept = accepted_keys tests;
+  accept = accepted_keys checked tests;
 }

@@ -8,9 +8,12 @@ ghost use Rattle.monoid_product.specs.Product.{key_count};
 ghost use Rattle.monoid_product.specs.ProductOf.{plain_parts};
 ghost use Rattle.monoid_product.specs.declared.product.TheConstants.{PART_LIMIT};
 ghost use Rattle.test_homs.specs.Joined as joined;
+ghost use Rattle.test_homs.specs.Joined.{AreNumbered};
 ghost use Rattle.test_homs.specs.Prepared.{plain_prepared};
 
 use crate::prepared::Prepared;
+use gta_checked::Checked;
+use gta_meaning::{Outcomes, verdict};
 use monoid_kit::Monoid;
 use monoid_product::{Component, Product};
 use std::alloc::{AllocError, Global};
@@ -60,33 +63,73 @@ fn fill_digits(digits: &mut Vec<u32>, tests: &[Prepared], place: usize) -> Resul
     Ok(())
 }
 
-/// Which keys are accepted: those of which each test accepts its digit. It takes memory for them.
+/// Which keys are accepted, by what each test comes to by its digit. It takes memory for them.
 pub(crate) fn accepted_keys(
     alloc: Global,
+    checked: &Checked,
     product: &Product,
     tests: &[Prepared],
 ) -> Result<Vec<bool>, AllocError>
     requires few { length tests.now ≤ PART_LIMIT }
+    requires numbered { AreNumbered (map plain_prepared tests.now) }
+    requires whole { length tests.now ≡ length checked.now.tests }
     requires product { plain_parts product.now ≡ joined.components (map plain_prepared tests.now) }
-    ensures { IfOk result (λ accept. accept.items ≡ joined.accepted_keys (map plain_prepared tests.now)) }
+    ensures { IfOk result (λ accept. accept.items ≡ joined.accepted_keys checked.now (map plain_prepared tests.now)) }
 {
     let mut accept = Vec::with_capacity(alloc, product.size() as usize)?;
     for key in 0..product.size() {
-        accept.push(key_accepted(product, tests, key))?;
+        accept.push(key_accepted(checked, product, tests, key))?;
     }
     Ok(accept)
 }
 
-fn key_accepted(product: &Product, tests: &[Prepared], key: u32) -> bool
+fn key_accepted(checked: &Checked, product: &Product, tests: &[Prepared], key: u32) -> bool
     requires few { length tests.now ≤ PART_LIMIT }
+    requires numbered { AreNumbered (map plain_prepared tests.now) }
+    requires whole { length tests.now ≡ length checked.now.tests }
     requires product { plain_parts product.now ≡ joined.components (map plain_prepared tests.now) }
     requires is_key { key < key_count (plain_parts product.now) }
-    ensures { result ≡ joined.key_accepted (map plain_prepared tests.now) key }
+    ensures { result ≡ joined.key_accepted checked.now (map plain_prepared tests.now) key }
 {
-    for k in 0..tests.len() {
-        if !tests[k].accepts(product.digit(key, k as u32)) {
-            return false;
+    let asked = Asked {
+        product,
+        tests,
+        key,
+    };
+    verdict(checked, &asked)
+}
+
+/// The tests, asked of a key by its digits.
+#[derive(Drop)]
+struct Asked<'a> {
+    product: &'a Product,
+    tests: &'a [Prepared],
+    key: u32,
+}
+
+impl<'a> Outcomes for Asked<'a> {
+    ghost use Rattle.std.specs.Prelude.{◌≡◌, ◌≤◌, ◌<◌, length, map};
+    ghost use Rattle.monoid_product.specs.Product.{digits, key_count};
+    ghost use Rattle.monoid_product.specs.ProductOf.{plain_parts};
+    ghost use Rattle.monoid_product.specs.declared.product.TheConstants.{PART_LIMIT};
+    ghost use Rattle.test_homs.specs.Joined.{AreNumbered, components, outcomes_of};
+    ghost use Rattle.test_homs.specs.Prepared.{plain_prepared};
+
+    ghost outcomes = { λ asked. outcomes_of (map plain_prepared asked.tests.now)
+        (digits (components (map plain_prepared asked.tests.now)) asked.key) };
+
+    ghost is_within = { λ asked. (length asked.tests.now ≤ PART_LIMIT)
+        × AreNumbered (map plain_prepared asked.tests.now)
+        × (plain_parts asked.product.now ≡ components (map plain_prepared asked.tests.now))
+        × (asked.key < key_count (plain_parts asked.product.now)) };
+
+    fn holds(&self, number: usize) -> bool {
+        for place in 0..self.tests.len() {
+            let test = &self.tests[place];
+            if test.number == number {
+                return test.accepts(self.product.digit(self.key, place as u32));
+            }
         }
+        false
     }
-    true
 }

@@ -39,9 +39,11 @@ pub(crate) trait Kind: Drop {
         ensures { result ≡ (hom self.now).accepts element };
 }
 
-/// The letters of so many rows and labels, and the accepted elements. It takes memory for them and for a table.
+/// The test of this number, with the letters of so many rows and labels. It takes memory for them, for the accepted
+/// elements and for a table.
 pub(crate) fn prepare<K: Kind>(
     alloc: Global,
+    number: usize,
     kind: &K,
     rows: u32,
     labels: u32,
@@ -49,12 +51,13 @@ pub(crate) fn prepare<K: Kind>(
     requires within { K.is_within kind.now }
     requires rows { rows ≡ (K.rows kind.now).count }
     ensures { IfOk result (λ test.
-        plain.plain_prepared test ≡ plain.prepared_of (K.rows kind.now) labels (K.hom kind.now)) }
+        plain.plain_prepared test ≡ plain.prepared_of (K.rows kind.now) labels number (K.hom kind.now)) }
 {
     let component = kind.component(alloc)?;
     let accept = accepted_by(alloc, kind, component.size())?;
     let letters = letters_of(alloc, kind, rows, labels)?;
     Ok(Prepared {
+        number,
         component,
         letters,
         accept,

@@ -6,7 +6,7 @@ ghost use Rattle.gta_checked.specs.PlainRows.{plain_rows};
 ghost use Rattle.gta_checked.specs.Within.{IsCheckWithin, IsTestWithin};
 ghost use Rattle.gta_meaning.specs.InRange.{HasColumnsOf, label_count};
 ghost use Rattle.test_homs.specs.Added.{IsAddedWithin};
-ghost use Rattle.test_homs.specs.Kinds.{hom_of_check};
+ghost use Rattle.test_homs.specs.Kinds.{hom_of, hom_of_check};
 ghost use Rattle.test_homs.specs.Prepared as plain;
 
 use crate::added::Added;
@@ -33,8 +33,8 @@ pub(crate) fn prepared_tests(
 {
     let tests = checked.tests();
     let mut prepared = Vec::with_capacity(alloc, tests.len())?;
-    for test in tests {
-        prepared.push(prepared_test(alloc, checked, rows, test)?)?;
+    for number in 0..tests.len() {
+        prepared.push(prepared_test(alloc, checked, rows, number, &tests[number])?)?;
     }
     Ok(prepared)
 }
@@ -43,19 +43,22 @@ fn prepared_test(
     alloc: Global,
     checked: &Checked,
     rows: &Rows,
+    number: usize,
     test: &Test,
 ) -> Result<Prepared, AllocError>
     requires columns { HasColumnsOf checked.now (plain_rows rows.now) }
     requires within { IsTestWithin (length checked.now.columns) (length checked.now.labels)
         (length checked.now.measures) checked.now.tables (plain_test test.now) }
     ensures { IfOk result (λ prepared. plain.plain_prepared prepared
-        ≡ plain.prepared_test checked.now (plain_rows rows.now) (plain_test test.now)) }
+        ≡ plain.prepared_of (plain_rows rows.now) (label_count checked.now) number
+        (hom_of checked.now (plain_test test.now))) }
 {
     match test {
         Test::Sum { measure, check } => {
-            prepared_sum(alloc, checked, rows, Added::Measure(*measure), *check)
+            let added = Added::Measure(*measure);
+            prepared_sum(alloc, checked, rows, number, added, *check)
         }
-        Test::Length { check } => prepared_sum(alloc, checked, rows, Added::One, *check),
+        Test::Length { check } => prepared_sum(alloc, checked, rows, number, Added::One, *check),
         Test::Fold {
             table,
             picks,
@@ -70,7 +73,7 @@ fn prepared_test(
                 accept,
                 accepted,
             };
-            prepare(alloc, &fold, rows.count, label_count(checked))
+            prepare(alloc, number, &fold, rows.count, label_count(checked))
         }
     }
 }
@@ -79,6 +82,7 @@ fn prepared_sum(
     alloc: Global,
     checked: &Checked,
     rows: &Rows,
+    number: usize,
     added: Added,
     check: Check,
 ) -> Result<Prepared, AllocError>
@@ -86,18 +90,19 @@ fn prepared_sum(
     requires added { IsAddedWithin (length checked.now.measures) added }
     requires check { IsCheckWithin check }
     ensures { IfOk result (λ prepared. plain.plain_prepared prepared
-        ≡ plain.prepared_of (plain_rows rows.now) (label_count checked.now) (hom_of_check checked.now added check)) }
+        ≡ plain.prepared_of (plain_rows rows.now) (label_count checked.now) number
+        (hom_of_check checked.now added check)) }
 {
     match check {
-        Check::Compare { cmp, number } => {
+        Check::Compare { cmp, number: bound } => {
             let compared = Compared {
                 checked,
                 rows,
                 added,
                 cmp,
-                number,
+                number: bound,
             };
-            prepare(alloc, &compared, rows.count, label_count(checked))
+            prepare(alloc, number, &compared, rows.count, label_count(checked))
         }
         Check::Mod { modulus, residue } => {
             let remainder = Remainder {
@@ -107,7 +112,7 @@ fn prepared_sum(
                 modulus,
                 residue,
             };
-            prepare(alloc, &remainder, rows.count, label_count(checked))
+            prepare(alloc, number, &remainder, rows.count, label_count(checked))
         }
     }
 }

@@ -4,9 +4,11 @@ ghost use Rattle.std.specs.Prelude.{◌≡◌, ◌<◌, length, false, slice_ind
 
 use monoid_product::Component;
 
-/// The monoid of a test, its letters by row and then by label, and for each element whether it is accepted.
+/// The number of a test, in the order of the lines and from 0, its monoid, its letters by row and then by label, and
+/// for each element whether it is accepted.
 #[derive(Drop)]
 pub(crate) struct Prepared {
+    pub number: usize,
     pub component: Component,
     pub letters: Vec<u32>,
     pub accept: Vec<bool>,

@@ -143,7 +143,7 @@ pub fn prepare_tests(alloc: Global, checked: &Checked, rows: &Rows) -> Result<Te
         Ok(product) => {
             let labels = label_count(checked);
             let count = rows.count as usize * labels as usize;
-            Ok(tests_in(alloc, product, &tests, count, labels)?)
+            Ok(tests_in(alloc, checked, product, &tests, count, labels)?)
         }
         Err(TooLarge { keys }) => Err(ValueFault::TooManyKeys { keys }),
     }
@@ -151,17 +151,19 @@ pub fn prepare_tests(alloc: Global, checked: &Checked, rows: &Rows) -> Result<Te
 
 fn tests_in(
     alloc: Global,
+    checked: &Checked,
     product: Product,
     tests: &[Prepared],
     count: usize,
     labels: u32,
 ) -> Result<Tests, AllocError>
     requires joinable { AreJoinable count (map plain_prepared tests.now) }
+    requires whole { length tests.now ≡ length checked.now.tests }
     requires product { plain_parts product ≡ components (map plain_prepared tests.now) }
-    ensures { IfOk result (λ made. made ≡ joined count labels (map plain_prepared tests.now)) }
+    ensures { IfOk result (λ made. made ≡ joined checked.now count labels (map plain_prepared tests.now)) }
 {
     let letters = keys(alloc, &product, tests, count)?;
-    let accept = accepted_keys(alloc, &product, tests)?;
+    let accept = accepted_keys(alloc, checked, &product, tests)?;
     Ok(Tests {
         product,
         labels,

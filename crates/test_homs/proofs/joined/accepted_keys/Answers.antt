@@ -6,5 +6,5 @@ use Rattle.test_homs.proofs.joined.accepted_keys.Goals as goal
 
 pub loop-key-preserved : goal.loop-key-preserved
 loop-key-preserved c =
-    items-more (key_accepted (plains c.args.tests.now)) [] _ _ _ _
+    items-more (key_accepted c.args.checked.now (plains c.args.tests.now)) [] _ _ _ _
     c.loop-key.invariant c.in_ok-push.ensures.items c.key_accepted.ensures

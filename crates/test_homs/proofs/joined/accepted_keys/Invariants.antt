@@ -6,4 +6,4 @@ use Rattle.test_homs.proofs.joined.accepted_keys.Given as goal
 
 -- what the keys so far are
 abbrev pub invariant-loop-key : goal.invariant-loop-key
-invariant-loop-key l = l.accept.items ≡ map (key_accepted (plains l.tests)) (range_with_len 0 l.key)
+invariant-loop-key l = l.accept.items ≡ map (key_accepted l.checked (plains l.tests)) (range_with_len 0 l.key)
