@@ -55,14 +55,8 @@ fn prepared_test(
 {
     match test {
         Test::Sum { measure, check } => {
-            prepared_sum(
-                alloc,
-                checked,
-                rows,
-                number,
-                Added::Measure(*measure),
-                *check,
-            )
+            let added = Added::Measure(*measure);
+            prepared_sum(alloc, checked, rows, number, added, *check)
         }
         Test::Length { check } => prepared_sum(alloc, checked, rows, number, Added::One, *check),
         Test::Fold {
