@@ -5,14 +5,14 @@ use Rattle.gta_text.specs.declared.token.Token.{Token}
 use Rattle.gta_text.specs.Names.{is_name_text}
 use Rattle.gta_spec.specs.Keep as keeps
 use Rattle.gta_spec.specs.Keep.{all_of, any_of, one_if}
-use Rattle.gta_spec.specs.Symbols.{Symbol, Word, Later, Digits, Text, Sign, Stray, symbol_of}
+use Rattle.gta_spec.specs.Symbols.{Symbol, Word, Later, Digits, Text, Sign, Stray}
 use Rattle.gta_spec.specs.Grammar.{Expr, names_among}
 use Rattle.gta_syntax.specs.declared.source.Source.{Source}
 use Rattle.gta_syntax.specs.declared.fault.LineFault.{LineFault}
 use Rattle.gta_syntax.specs.declared.fault.LineFault.TheVariants as faults
 use Rattle.gta_syntax.specs.Sources.{symbols_in}
-use Rattle.gta_syntax.specs.Rules.{◌>>=◌, Reading, Fails, begins_word, begins_later, begins_name, word_at, later_at, sign_at}
-use Rattle.gta_syntax.specs.Rules.{name_at, many, and_lit_with, conj_with, or_conj_with, expr_with, lit_over, lit_at}
+use Rattle.gta_syntax.specs.Rules.{◌>>=◌, Reading, Fails, begins_word, begins_later, begins_name, later_at, sign_at}
+use Rattle.gta_syntax.specs.Rules.{name_at, and_lit_with, conj_with, or_conj_with, expr_with, lit_over, lit_at}
 use Rattle.gta_syntax.proofs.Loops.{GroupedSoFar, IsGrouping}
 
 -- names

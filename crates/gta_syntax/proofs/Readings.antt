@@ -1,5 +1,5 @@
 -- The specification and the refusals, read from left to right and said by whole lines, are the same.
-use Rattle.std.proofs.Common.{◌≡◌, ℕ, true, false, cond, ◌||◌, List, [], ◌∷◌, refl, sym, ap, subst, ◌∙◌, rules, ◌≢◌}
+use Rattle.std.proofs.Common.{◌≡◌, ℕ, true, false, cond, ◌||◌, List, [], ◌∷◌, refl, sym, subst, ◌∙◌, rules, ◌≢◌}
 use Rattle.std.specs.Prelude.{Option, Some, None, Result, Ok, Err, IfOk, IsErrOf}
 use Rattle.std.specs.List.{list_any}
 use Rattle.outcome_kit.specs.Outcome.{Carries, Tells}

@@ -1,5 +1,5 @@
 -- What is read of a line `keep` is derived.
-use Rattle.std.proofs.Common.{◌≡◌, ℕ, zero, suc, true, List, length, arith}
+use Rattle.std.proofs.Common.{ℕ, zero, suc, List, length, arith}
 use Rattle.std.specs.Prelude.{nat_le, codes}
 use Rattle.std.proofs.lemmas.Bool.Decides.{nat_tests}
 use Rattle.gta_spec.specs.declared.limits.TheConstants.{KEPT_NAME_LIMIT, NESTING_LIMIT}

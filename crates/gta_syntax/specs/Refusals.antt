@@ -1,5 +1,5 @@
 -- What is answered to the bytes of a specification: the refusals in their order, or the specification.
-use Rattle.std.specs.Prelude.{◌≡◌, ℕ, List, [], ◌∷◌, if◌then◌else◌, Option, Some, None, Result, Ok, Err}
+use Rattle.std.specs.Prelude.{ℕ, List, [], ◌∷◌, if◌then◌else◌, Option, Some, None, Result, Ok, Err}
 use Rattle.gta_text.specs.Text.{Numbered, Found, BadByte, read_lines}
 use Rattle.gta_syntax.specs.declared.fault.SpecFault.{SpecFault}
 use Rattle.gta_syntax.specs.declared.fault.SpecFault.TheVariants.{Byte, Version, Grammar, Number, NoRows, Memory}
@@ -39,7 +39,7 @@ unfoldable pub parts_from : ℕ → List ℕ → List Numbered → Result (List 
 parts_from version source [] = Ok []
 parts_from version source (line ∷ lines) =
     with_part (the_part line.number (part_at version (symbols version source line.tokens)))
-        (parts_from version source lines)
+    (parts_from version source lines)
 
 abbrev pub with_rows : SpecTree → Option ℕ → Result ReadTree SpecFault
 with_rows spec None = Err NoRows

@@ -9,7 +9,9 @@ ghost use Rattle.gta_syntax.specs.Rules.{Gives, and_lit_with, conj_with, or_conj
 
 use crate::fault::LineFault;
 use crate::source::Source;
-use crate::symbols::{begins_later, begins_name, begins_word, later, later_at, name_at, sign, sign_at, word_at};
+use crate::symbols::{
+    begins_later, begins_name, begins_word, later, later_at, name_at, sign, sign_at, word_at,
+};
 use gta_spec::{KEPT_NAME_LIMIT, KeepPart, NESTING_LIMIT};
 use gta_text::Token;
 use std::alloc::{AllocError, Global};

@@ -96,10 +96,7 @@ fn version_in(bytes: &[u8], tokens: &[Token]) -> Option<u8>
         [word, digits]
             if word.kind == TokenKind::Word
                 && word.text(bytes) == b"gta".as_slice()
-                && digits.kind == TokenKind::Digits =>
-        {
-            version_named(digits.text(bytes))
-        }
+                && digits.kind == TokenKind::Digits => { version_named(digits.text(bytes)) }
         _ => None,
     }
 }

@@ -15,7 +15,7 @@ pub(crate) struct Source<'s> {
 pub(crate) fn is_later(version: u8, word: &[u8]) -> bool
     ensures { result ≡ is_later version word.now }
 {
-    is_later_word(word) && version >= 2
+    version >= 2 && is_later_word(word)
 }
 
 fn is_later_word(word: &[u8]) -> bool

@@ -14,36 +14,28 @@ use std::alloc::Global;
 
 /// What follows the word, where the tokens begin with it, and the version doesn't reserve it newly.
 #[tactic(auto, unfolding(crate::specs::Rules::word_at))]
-pub(crate) fn word<'t>(
-    source: Source<'_>,
-    word: &[u8],
-    tokens: &'t [Token],
-) -> Option<&'t [Token]>
+pub(crate) fn word<'t>(source: Source<'_>, word: &[u8], tokens: &'t [Token]) -> Option<&'t [Token]>
     ensures { option_map (λ rest. symbols_in source.entry rest.now) result
         ≡ word_at word.now (symbols_in source.entry tokens.now) }
 {
     let (token, rest) = tokens.split_first()?;
     let text = token.text(source.bytes);
     match token.kind {
-        TokenKind::Word if !is_later(source.version, text) && text == word => Some(rest),
+        TokenKind::Word if text == word && !is_later(source.version, text) => Some(rest),
         _ => None,
     }
 }
 
 /// What follows the word, where the tokens begin with it, and the version reserves it newly.
 #[tactic(auto, unfolding(crate::specs::Rules::later_at))]
-pub(crate) fn later<'t>(
-    source: Source<'_>,
-    word: &[u8],
-    tokens: &'t [Token],
-) -> Option<&'t [Token]>
+pub(crate) fn later<'t>(source: Source<'_>, word: &[u8], tokens: &'t [Token]) -> Option<&'t [Token]>
     ensures { option_map (λ rest. symbols_in source.entry rest.now) result
         ≡ later_at word.now (symbols_in source.entry tokens.now) }
 {
     let (token, rest) = tokens.split_first()?;
     let text = token.text(source.bytes);
     match token.kind {
-        TokenKind::Word if is_later(source.version, text) && text == word => Some(rest),
+        TokenKind::Word if text == word && is_later(source.version, text) => Some(rest),
         _ => None,
     }
 }
@@ -106,14 +98,17 @@ fn unquoted(text: &[u8]) -> &[u8]
 
 /// The name that the tokens begin with, and what follows.
 #[tactic(auto, unfolding(crate::specs::Rules::name_at))]
-pub(crate) fn word_of_name<'s, 't>(source: Source<'s>, tokens: &'t [Token]) -> Option<(&'s [u8], &'t [Token])>
+pub(crate) fn word_of_name<'s, 't>(
+    source: Source<'s>,
+    tokens: &'t [Token],
+) -> Option<(&'s [u8], &'t [Token])>
     ensures { option_map (λ x. (x.0.now, symbols_in source.entry x.1.now)) result
         ≡ name_at (symbols_in source.entry tokens.now) }
 {
     let (token, rest) = tokens.split_first()?;
     let text = token.text(source.bytes);
     match token.kind {
-        TokenKind::Word if !is_later(source.version, text) && is_name(text) => Some((text, rest)),
+        TokenKind::Word if is_name(text) && !is_later(source.version, text) => Some((text, rest)),
         _ => None,
     }
 }

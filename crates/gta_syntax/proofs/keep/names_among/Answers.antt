@@ -1,4 +1,4 @@
-use Rattle.std.proofs.Common.{◌≡◌, ◌<◌, true, false, length, arith, sym}
+use Rattle.std.proofs.Common.{◌<◌, true, false, length, arith, sym}
 use Rattle.std.proofs.lemmas.List.{length-drop}
 use Rattle.gta_text.specs.declared.token.Token.{Token}
 use Rattle.gta_syntax.proofs.KeepLoops.{names_next}
