@@ -3,8 +3,8 @@
 
 usage: keep.py PROGRAM [RANDOM [SEED]]
 
-All expressions of up to three names, each name perhaps behind `not`, in each grouping, and then RANDOM larger ones that are
-written with spare parentheses and blanks. Three rows, of which the first makes test a hold, the second b and the third c, have
+Expressions of up to three names, each name perhaps behind `not`, in each grouping, and then RANDOM larger ones that are written
+with spare parentheses and blanks. Three rows, of which the first makes test a hold, the second b and the third c, have
 one candidate for each line of a truth table; so the candidates that `list` prints are where the expression is true."""
 import itertools, random, subprocess, sys
 
@@ -67,16 +67,19 @@ def written_within(least, tree, chance, deep):
 
 
 def small():
-    literals = [it for name in "abc" for it in (name, ("not", name))]
-    yield from literals
-    for words in itertools.product(("and", "or"), repeat=2):
-        for a, b, c in itertools.product(literals, repeat=3):
-            yield (words[1], (words[0], a, b), c)
-            yield (words[0], a, (words[1], b, c))
-    for word in ("and", "or"):
-        for a, b in itertools.product(literals, repeat=2):
-            yield (word, a, b)
-            yield ("not", (word, a, b))
+    perhaps = lambda name: (name, ("not", name))
+    yield from (it for name in "abc" for it in perhaps(name))
+    for names in ("ab", "aa"):
+        for word in ("and", "or"):
+            for a, b in itertools.product(*map(perhaps, names)):
+                yield (word, a, b)
+                yield ("not", (word, a, b))
+    for names in ("abc", "aba"):
+        for first, second in itertools.product(("and", "or"), repeat=2):
+            for a, b, c in itertools.product(*map(perhaps, names)):
+                yield (second, (first, a, b), c)
+                yield (first, a, (second, b, c))
+                yield (second, ("not", (first, a, b)), c)
 
 
 def large(names, chance):
@@ -108,7 +111,7 @@ def is_right(tree, text):
 
 
 def main():
-    count = int(sys.argv[2]) if len(sys.argv) > 2 else 200
+    count = int(sys.argv[2]) if len(sys.argv) > 2 else 100
     chance = random.Random(int(sys.argv[3]) if len(sys.argv) > 3 else 7)
     cases = [(tree, canonical(tree)) for tree in small()]
     for _ in range(count):
