@@ -1,101 +1,36 @@
 -- What is derived is read: a lemma for each rule, with a line for each alternative.
-use Rattle.std.proofs.Common.{◌≡◌, ℕ, ◌≤◌, ◌<◌, Bool, true, false, List, [], length, refl, sym, ap, ◌∙◌, arith}
-use Rattle.std.specs.Prelude.{ℤ, Some, None, codes}
-use Rattle.std.specs.Str.{bytes_eq}
-use Rattle.std.proofs.lemmas.Slice.Eq.{bytes_eq-Decides}
+use Rattle.std.proofs.Common.{◌≡◌, ℕ, ◌≤◌, ◌<◌, Bool, true, false, List, [], length, refl, ap, arith}
+use Rattle.std.specs.Prelude.{ℤ, nat_le, Some, None, codes}
+use Rattle.std.proofs.lemmas.Bool.Decides.{nat_tests}
 use Rattle.shape_gen.specs.declared.shape.Shape.{Shape}
-use Rattle.gta_text.specs.Names.{is_reserved, is_name_text}
+use Rattle.gta_text.specs.Names.{is_reserved}
 use Rattle.gta_spec.specs.declared.parts.ColumnItem.{ColumnItem}
 use Rattle.gta_spec.specs.declared.parts.TermPart.{TermPart}
 use Rattle.gta_spec.specs.declared.parts.AtomPart.{AtomPart}
 use Rattle.gta_spec.specs.declared.parts.Cmp.{Cmp}
 use Rattle.gta_spec.specs.declared.parts.Check.{Check}
-use Rattle.gta_spec.specs.declared.parts.GoalPart.{GoalPart}
 use Rattle.gta_spec.specs.Symbols.{Symbol}
-use Rattle.gta_spec.specs.Parts.{CaseTree, PickTree, TestTree, KindTree}
-use Rattle.gta_spec.specs.Grammar.{IsWord, IsSign, IsDigits, IsText, IsName, IsNames, IsNum, IsItem, IsCmp, IsAtom}
+use Rattle.gta_spec.specs.Parts.{CaseTree, PickTree, TestTree, KindTree, Test, Named}
+use Rattle.gta_spec.specs.Grammar.{IsSign, IsName, IsNames, IsNum, IsItem, IsCmp, IsAtom}
 use Rattle.gta_spec.specs.Grammar.{IsAnd, IsCond, IsIf, IsTerm, IsFirstTerm, IsNextTerm, IsForm, IsCase, IsNextCase}
-use Rattle.gta_spec.specs.Grammar.{IsCases, IsPick, IsNextPick, IsPicks, IsCheck, IsTest, IsShape, IsEnd, IsGoal}
+use Rattle.gta_spec.specs.Grammar.{IsCases, IsPick, IsNextPick, IsPicks, IsCheck, IsTest, IsShape}
 use Rattle.gta_spec.specs.Grammar.{IsLine, IsPart, Listed, behind}
-use Rattle.gta_syntax.specs.Rules.{word_at, sign_at, digits_at, text_at, name_at, names_at, num_at, item_at, cmp_at}
+use Rattle.gta_syntax.specs.Rules.{word_at, sign_at, name_at, names_at, num_at, item_at, cmp_at}
 use Rattle.gta_syntax.specs.Rules.{atom_at, and_at, cond_at, if_at, term_at, first_term_at, next_term_at, form_at}
 use Rattle.gta_syntax.specs.Rules.{case_at, next_case_at, cases_at, pick_at, next_pick_at, picks_at, check_at}
-use Rattle.gta_syntax.specs.Rules.{fold_at, test_at, shape_at, end_at, best_at, goal_at, measure_at, table_at}
+use Rattle.gta_syntax.specs.Rules.{fold_at, test_at, shape_at, measure_at, table_at, named_at, test_line_at}
 use Rattle.gta_syntax.specs.Rules.{times_at, line_at, part_at, begins_name, begins_word, begins_sign}
 use Rattle.gta_syntax.specs.Rules.{begins_next_term, list_at}
 use Rattle.gta_syntax.proofs.Again.{IsReadable, list_again, list_within}
-
-same : (xs : List ℕ) → bytes_eq xs xs ≡ true
-same xs = (bytes_eq-Decides xs xs).1 refl
-
--- one symbol
-
-word_again : {w : List ℕ} {ts rest : List Symbol} → IsWord w ts rest → word_at w ts ≡ Some rest
-unfolding word_at
-word_again {w = w} e = rw (e, same w) refl
-
-sign_again : {s : List ℕ} {ts rest : List Symbol} → IsSign s ts rest → sign_at s ts ≡ Some rest
-unfolding sign_at
-sign_again {s = s} e = rw (e, same s) refl
-
-digits_again : {n : ℕ} {ts rest : List Symbol} → IsDigits n ts rest → digits_at ts ≡ Some (n, rest)
-unfolding digits_at
-digits_again e = rw e refl
-
-text_again : {x : List ℕ} {ts rest : List Symbol} → IsText x ts rest → text_at ts ≡ Some (x, rest)
-unfolding text_at
-text_again e = rw e refl
-
-name_again : {x : List ℕ} {ts rest : List Symbol} → IsName x ts rest → name_at ts ≡ Some (x, rest)
-unfolding name_at
-name_again n = rw (n.front, n.free) refl
-
-no_other_word : (w : List ℕ) {v : List ℕ} {ts rest : List Symbol} → IsWord v ts rest → bytes_eq v w ≡ false
-    → word_at w ts ≡ None
-unfolding word_at
-no_other_word w e off = rw (e, off) refl
-
-no_other_sign : (s : List ℕ) {v : List ℕ} {ts rest : List Symbol} → IsSign v ts rest → bytes_eq v s ≡ false
-    → sign_at s ts ≡ None
-unfolding sign_at
-no_other_sign s e off = rw (e, off) refl
-
-no_word_at_sign : (w : List ℕ) {s : List ℕ} {ts rest : List Symbol} → IsSign s ts rest → word_at w ts ≡ None
-unfolding word_at
-no_word_at_sign w e = rw e refl
-
-no_sign_at_word : (s : List ℕ) {w : List ℕ} {ts rest : List Symbol} → IsWord w ts rest → sign_at s ts ≡ None
-unfolding sign_at
-no_sign_at_word s e = rw e refl
-
-no_sign_at_digits : (s : List ℕ) {n : ℕ} {ts rest : List Symbol} → IsDigits n ts rest → sign_at s ts ≡ None
-unfolding sign_at
-no_sign_at_digits s e = rw e refl
-
-no_sign_at_name : (s : List ℕ) {x : List ℕ} {ts rest : List Symbol} → IsName x ts rest → sign_at s ts ≡ None
-no_sign_at_name s n = no_sign_at_word s n.front
-
-no_digits_at_name : {x : List ℕ} {ts rest : List Symbol} → IsName x ts rest → digits_at ts ≡ None
-unfolding digits_at
-no_digits_at_name n = rw n.front refl
-
-differ : (x w : List ℕ) → is_name_text x ≡ true → is_name_text w ≡ false → bytes_eq x w ≡ false
-differ x w free taken = elim (bytes_eq x w) as (λ b. bytes_eq x w ≡ b → b ≡ false)
-    [ true ↦ (λ e. absurd (clash ((bytes_eq-Decides x w).0 e))) | false ↦ (λ e. refl) ] refl
-  where
-    clash : x ≡ w → ⊥
-    clash e = let other : is_name_text w ≡ true = rw (sym e) free in let both : true ≡ false = sym other
-        ∙ taken in absurd cc
-
--- a reserved word is no name
-no_word_at_name : (w : List ℕ) {x : List ℕ} {ts rest : List Symbol} → IsName x ts rest → is_name_text w ≡ false
-    → word_at w ts ≡ None
-no_word_at_name w {x = x} n taken = no_other_word w n.front (differ x w n.free taken)
+use Rattle.gta_syntax.proofs.CompleteSymbols.{word_again, later_again, sign_again, digits_again, text_again, name_again}
+use Rattle.gta_syntax.proofs.CompleteSymbols.{no_other_word, no_other_sign, no_word_at_sign, no_word_at_later}
+use Rattle.gta_syntax.proofs.CompleteSymbols.{no_later_at_word, no_sign_at_word, no_sign_at_digits, no_sign_at_name}
+use Rattle.gta_syntax.proofs.CompleteSymbols.{no_digits_at_name, no_word_at_name, no_name_at_word, name_shorter}
+use Rattle.gta_syntax.proofs.CompleteSymbols.{no_name_at_end, no_sign_at_end, no_word_at_end, no_later_at_end}
+use Rattle.gta_syntax.proofs.CompleteGoals.{goal_again}
+use Rattle.gta_syntax.proofs.CompleteKeep.{keep_again}
 
 -- names
-
-name_shorter : {x : List ℕ} {ts rest : List Symbol} → IsName x ts rest → length rest < length ts
-name_shorter n = omega (arith, ap length n.front)
 
 names_readable : IsReadable IsName name_at begins_name (λ ts. Unit {0})
 names_readable = record {
@@ -396,7 +331,7 @@ test_again (IsTest.fold w n v p u e) off =
       names_again e off,
     ) refl
 
--- shapes and goals
+-- shapes
 
 shape_again : {x : Shape} {ts rest : List Symbol} → IsShape x ts rest → shape_at ts ≡ Some (x, rest)
 unfolding shape_at word_at
@@ -406,50 +341,7 @@ shape_again (IsShape.prefixes w) = rw w refl
 shape_again (IsShape.suffixes w) = rw w refl
 shape_again (IsShape.assign w) = rw w refl
 
-end_again : {x : Bool} {ts rest : List Symbol} → IsEnd x ts rest → end_at ts ≡ Some (x, rest)
-unfolding end_at word_at
-end_again (IsEnd.greatest w) = rw w refl
-end_again (IsEnd.least w) = rw w refl
-
-goal_again : {x : GoalPart} {ts rest : List Symbol} → IsGoal x ts rest → goal_at ts ≡ Some (x, rest)
-unfolding goal_at best_at
-goal_again (IsGoal.count w) = rw (word_again w) refl
-goal_again (IsGoal.any w) = rw (no_other_word (codes "count") w refl, word_again w) refl
-goal_again (IsGoal.max w n) = rw
-    (no_other_word (codes "count") w refl, no_other_word (codes "any") w refl, word_again w, name_again n) refl
-goal_again (IsGoal.min w n) =
-    rw (
-      no_other_word (codes "count") w refl,
-      no_other_word (codes "any") w refl,
-      no_other_word (codes "max") w refl,
-      word_again w,
-      name_again n,
-    ) refl
-goal_again (IsGoal.best w d e n) =
-    rw (
-      no_other_word (codes "count") w refl,
-      no_other_word (codes "any") w refl,
-      no_other_word (codes "max") w refl,
-      no_other_word (codes "min") w refl,
-      word_again w,
-      digits_again d,
-      end_again e,
-      name_again n,
-    ) refl
-
 -- lines
-
-no_name_at_end : begins_name [] ≡ false
-unfolding name_at
-no_name_at_end = refl
-
-no_sign_at_end : (s : List ℕ) → sign_at s [] ≡ None
-unfolding sign_at
-no_sign_at_end s = refl
-
-no_word_at_end : (w : List ℕ) → word_at w [] ≡ None
-unfolding word_at
-no_word_at_end w = refl
 
 case_at_end : EndsCase []
 case_at_end = record {
@@ -459,7 +351,26 @@ case_at_end = record {
   ends_if = record { no_if = no_word_at_end (codes "if"); no_and = no_word_at_end (codes "and") };
 }
 
-line_again : {x : KindTree} {ts : List Symbol} → IsLine x ts [] → line_at ts ≡ Some (x, [])
+no_name_at_test : {x : TestTree} {ts rest : List Symbol} → IsTest x ts rest → name_at ts ≡ None
+unfolding is_reserved
+no_name_at_test (IsTest.sum w n k) = no_name_at_word w refl
+no_name_at_test (IsTest.length w k) = no_name_at_word w refl
+no_name_at_test (IsTest.fold w n v p u e) = no_name_at_word w refl
+
+test_line_again : (version : ℕ) {x : TestTree} {ts : List Symbol} → IsTest x ts []
+    → test_line_at version ts ≡ Some (Test x, [])
+unfolding test_line_at
+test_line_again version d = rw (no_name_at_test d, test_again d no_name_at_end) refl
+
+named_again : {version : ℕ} {x : List ℕ} {t : TestTree} {ts a b : List Symbol} → 2 ≤ version → IsName x ts a
+    → IsSign (codes "=") a b → IsTest t b [] → test_line_at version ts ≡ Some (Named x t, [])
+unfolding test_line_at named_at
+named_again {version = version} later n s d =
+    let on : nat_le 2 version ≡ true = grind (arith, nat_tests) in
+    rw (name_again n, on, sign_again s, test_again d no_name_at_end) refl
+
+line_again : {version : ℕ} {x : KindTree} {ts : List Symbol} → IsLine version x ts []
+    → line_at version ts ≡ Some (x, [])
 unfolding line_at measure_at table_at times_at
 line_again (IsLine.columns w d) = rw (word_again w, items_again d no_name_at_end (no_sign_at_end (codes "="))) refl
 line_again (IsLine.labels w d) = rw
@@ -516,7 +427,30 @@ line_again (IsLine.test w d) =
       no_other_word (codes "times") w refl,
       no_other_word (codes "generate") w refl,
       word_again w,
-      test_again d no_name_at_end,
+      test_line_again _ d,
+    ) refl
+line_again (IsLine.named later w n s d) =
+    rw (
+      no_other_word (codes "columns") w refl,
+      no_other_word (codes "labels") w refl,
+      no_other_word (codes "measure") w refl,
+      no_other_word (codes "table") w refl,
+      no_other_word (codes "times") w refl,
+      no_other_word (codes "generate") w refl,
+      word_again w,
+      named_again later n s d,
+    ) refl
+line_again (IsLine.keep w d) =
+    rw (
+      no_word_at_later (codes "columns") w,
+      no_word_at_later (codes "labels") w,
+      no_word_at_later (codes "measure") w,
+      no_word_at_later (codes "table") w,
+      no_word_at_later (codes "times") w,
+      no_word_at_later (codes "generate") w,
+      no_word_at_later (codes "test") w,
+      later_again w,
+      keep_again d,
     ) refl
 line_again (IsLine.aggregate w d) =
     rw (
@@ -527,10 +461,11 @@ line_again (IsLine.aggregate w d) =
       no_other_word (codes "times") w refl,
       no_other_word (codes "generate") w refl,
       no_other_word (codes "test") w refl,
+      no_later_at_word (codes "keep") w,
       word_again w,
-      goal_again d,
+      goal_again d (rw (no_later_at_end (codes "then")) refl),
     ) refl
 
-pub part_again : {x : KindTree} {ts : List Symbol} → IsPart x ts → part_at ts ≡ Some x
+pub part_again : {version : ℕ} {x : KindTree} {ts : List Symbol} → IsPart version x ts → part_at version ts ≡ Some x
 unfolding part_at
 part_again d = rw (line_again d) refl

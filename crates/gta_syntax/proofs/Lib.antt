@@ -1,7 +1,14 @@
 pub mod Loops
+pub mod KeepLoops
 pub mod Each
+pub mod SoundSymbols
+pub mod SoundGoals
+pub mod SoundKeep
 pub mod Sound
 pub mod Again
+pub mod CompleteSymbols
+pub mod CompleteGoals
+pub mod CompleteKeep
 pub mod Complete
 pub mod PartLoops
 pub mod Readings

@@ -1,74 +1,23 @@
 -- What is read is derived: a lemma for each rule, with a line for each alternative.
-use Rattle.std.proofs.Common.{◌≡◌, ℕ, Bool, true, false, List, [], ◌∷◌, refl, ap}
-use Rattle.std.specs.Prelude.{Some, None, codes, cond}
-use Rattle.std.specs.Str.{bytes_eq}
-use Rattle.std.proofs.lemmas.Slice.Eq.{bytes_eq-Decides}
-use Rattle.gta_text.specs.Names.{is_name_text}
-use Rattle.gta_spec.specs.Symbols.{Symbol, Word, Digits, Text, Sign, Stray}
+use Rattle.std.proofs.Common.{ℕ, Bool, true, false, List, [], ◌∷◌, arith}
+use Rattle.std.specs.Prelude.{nat_le, codes}
+use Rattle.std.proofs.lemmas.Bool.Decides.{nat_tests}
+use Rattle.gta_spec.specs.Symbols.{Symbol}
 use Rattle.gta_spec.specs.Parts.{KindTree}
-use Rattle.gta_spec.specs.Grammar.{IsWord, IsSign, IsDigits, IsText, IsName, IsNames, IsNum, IsItem, IsCmp, IsAtom}
+use Rattle.gta_spec.specs.Grammar.{IsWord, IsName, IsNames, IsNum, IsItem, IsCmp, IsAtom}
 use Rattle.gta_spec.specs.Grammar.{IsAnd, IsCond, IsIf, IsTerm, IsFirstTerm, IsNextTerm, IsForm, IsCase, IsNextCase}
-use Rattle.gta_spec.specs.Grammar.{IsCases, IsPick, IsNextPick, IsPicks, IsCheck, IsTest, IsShape, IsEnd, IsGoal}
+use Rattle.gta_spec.specs.Grammar.{IsCases, IsPick, IsNextPick, IsPicks, IsCheck, IsTest, IsShape}
 use Rattle.gta_spec.specs.Grammar.{IsLine, IsPart, behind}
-use Rattle.gta_syntax.specs.Rules.{word_at, sign_at, digits_at, text_at, name_at, names_at, num_at, item_at, cmp_at}
+use Rattle.gta_syntax.specs.Rules.{names_at, num_at, item_at, cmp_at}
 use Rattle.gta_syntax.specs.Rules.{atom_at, and_at, cond_at, if_at, term_at, first_term_at, next_term_at, form_at}
 use Rattle.gta_syntax.specs.Rules.{case_at, next_case_at, cases_at, pick_at, next_pick_at, picks_at, check_at}
-use Rattle.gta_syntax.specs.Rules.{fold_at, test_at, shape_at, end_at, best_at, goal_at, measure_at, table_at}
-use Rattle.gta_syntax.specs.Rules.{times_at, line_at, part_at, ended_by}
+use Rattle.gta_syntax.specs.Rules.{fold_at, test_at, shape_at, measure_at, table_at}
+use Rattle.gta_syntax.specs.Rules.{times_at, named_at, test_line_at, line_at, part_at, ended_by}
 use Rattle.gta_syntax.proofs.Each.{Each, done, nothing, and_then, either, then_is, list_takes}
-
-same_bytes : (xs ys : List ℕ) → bytes_eq xs ys ≡ true → xs ≡ ys
-same_bytes xs ys e = (bytes_eq-Decides xs ys).0 e
-
--- a test, and then a value or none
-when : {A : Type 0} {P : A → Type 0} (x : A) (b : Bool) → (b ≡ true → P x) → Each (cond b (Some x) None) P
-when x true p = done (p refl)
-when x false p = nothing
-
-word_takes : (w : List ℕ) (ts : List Symbol) → Each (word_at w ts) (λ rest. IsWord w ts rest)
-unfolding word_at
-word_takes w [] = nothing
-word_takes w (Word x ∷ rest) = when rest (bytes_eq x w) (λ e. ap (λ y. Word y ∷ rest) (same_bytes x w e))
-word_takes w (Digits n ∷ rest) = nothing
-word_takes w (Text x ∷ rest) = nothing
-word_takes w (Sign s ∷ rest) = nothing
-word_takes w (Stray ∷ rest) = nothing
-
-sign_takes : (s : List ℕ) (ts : List Symbol) → Each (sign_at s ts) (λ rest. IsSign s ts rest)
-unfolding sign_at
-sign_takes s [] = nothing
-sign_takes s (Word x ∷ rest) = nothing
-sign_takes s (Digits n ∷ rest) = nothing
-sign_takes s (Text x ∷ rest) = nothing
-sign_takes s (Sign x ∷ rest) = when rest (bytes_eq x s) (λ e. ap (λ y. Sign y ∷ rest) (same_bytes x s e))
-sign_takes s (Stray ∷ rest) = nothing
-
-digits_takes : (ts : List Symbol) → Each (digits_at ts) (λ x. IsDigits x.0 ts x.1)
-unfolding digits_at
-digits_takes [] = nothing
-digits_takes (Word x ∷ rest) = nothing
-digits_takes (Digits n ∷ rest) = done refl
-digits_takes (Text x ∷ rest) = nothing
-digits_takes (Sign x ∷ rest) = nothing
-digits_takes (Stray ∷ rest) = nothing
-
-text_takes : (ts : List Symbol) → Each (text_at ts) (λ x. IsText x.0 ts x.1)
-unfolding text_at
-text_takes [] = nothing
-text_takes (Word x ∷ rest) = nothing
-text_takes (Digits n ∷ rest) = nothing
-text_takes (Text x ∷ rest) = done refl
-text_takes (Sign x ∷ rest) = nothing
-text_takes (Stray ∷ rest) = nothing
-
-name_takes : (ts : List Symbol) → Each (name_at ts) (λ x. IsName x.0 ts x.1)
-unfolding name_at
-name_takes [] = nothing
-name_takes (Word x ∷ rest) = when (x, rest) (is_name_text x) (λ e. record { front = refl; free = e })
-name_takes (Digits n ∷ rest) = nothing
-name_takes (Text x ∷ rest) = nothing
-name_takes (Sign x ∷ rest) = nothing
-name_takes (Stray ∷ rest) = nothing
+use Rattle.gta_syntax.proofs.SoundSymbols.{only_when, word_takes, later_takes, sign_takes, digits_takes, text_takes}
+use Rattle.gta_syntax.proofs.SoundSymbols.{name_takes}
+use Rattle.gta_syntax.proofs.SoundGoals.{goal_takes}
+use Rattle.gta_syntax.proofs.SoundKeep.{keep_takes}
 
 names_takes : (ts : List Symbol) → Each (names_at ts) (λ xs. IsNames xs.0 ts xs.1)
 names_takes ts = list_takes _ name_takes name_takes ts
@@ -187,64 +136,61 @@ shape_takes ts = either (word_takes (codes "sublists") ts) (λ a w. done (IsShap
     (either (word_takes (codes "suffixes") ts) (λ a w. done (IsShape.suffixes w))
     (and_then (word_takes (codes "assign") ts) (λ a w. done (IsShape.assign w))))))
 
-end_takes : (ts : List Symbol) → Each (end_at ts) (λ x. IsEnd x.0 ts x.1)
-unfolding end_at
-end_takes ts = either (word_takes (codes "max") ts) (λ a w. done (IsEnd.greatest w))
-    (and_then (word_takes (codes "min") ts) (λ a w. done (IsEnd.least w)))
-
-best_takes : (ts : List Symbol)
-    → Each (best_at ts) (λ x. (a : List Symbol) → IsWord (codes "best") a ts → IsGoal x.0 a x.1)
-unfolding best_at
-best_takes ts = and_then (digits_takes ts)
-    (λ k d. and_then (end_takes k.1) (λ e f. and_then (name_takes e.1) (λ x n. done (λ a w. IsGoal.best w d f n))))
-
-goal_takes : (ts : List Symbol) → Each (goal_at ts) (λ x. IsGoal x.0 ts x.1)
-unfolding goal_at
-goal_takes ts = either (word_takes (codes "count") ts) (λ a w. done (IsGoal.count w))
-    (either (word_takes (codes "any") ts) (λ a w. done (IsGoal.any w))
-    (either (word_takes (codes "max") ts) (λ a w. and_then (name_takes a) (λ x n. done (IsGoal.max w n)))
-    (either (word_takes (codes "min") ts) (λ a w. and_then (name_takes a) (λ x n. done (IsGoal.min w n)))
-    (and_then (word_takes (codes "best") ts) (λ a w. then_is (best_takes a) (λ x d. d ts w))))))
-
-measure_takes : (ts : List Symbol)
-    → Each (measure_at ts) (λ x. (a : List Symbol) → IsWord (codes "measure") a ts → IsLine x.0 a x.1)
+measure_takes : (version : ℕ) (ts : List Symbol)
+    → Each (measure_at ts) (λ x. (a : List Symbol) → IsWord (codes "measure") a ts → IsLine version x.0 a x.1)
 unfolding measure_at
-measure_takes ts = and_then (name_takes ts)
+measure_takes version ts = and_then (name_takes ts)
     (λ x n. and_then (sign_takes (codes "=") x.1)
     (λ a s. and_then (cases_takes a) (λ ks k. done (λ t w. IsLine.measure w n s k))))
 
-table_takes : (ts : List Symbol)
-    → Each (table_at ts) (λ x. (a : List Symbol) → IsWord (codes "table") a ts → IsLine x.0 a x.1)
+table_takes : (version : ℕ) (ts : List Symbol)
+    → Each (table_at ts) (λ x. (a : List Symbol) → IsWord (codes "table") a ts → IsLine version x.0 a x.1)
 unfolding table_at
-table_takes ts = and_then (name_takes ts)
+table_takes version ts = and_then (name_takes ts)
     (λ x n. and_then (word_takes (codes "unit") x.1) (λ a u. and_then (name_takes a) (λ y m.
     and_then (word_takes (codes "elements") y.1)
     (λ b v. and_then (names_takes b) (λ es e. done (λ t w. IsLine.table w n u m v e))))))
 
-times_takes : (ts : List Symbol)
-    → Each (times_at ts) (λ x. (a : List Symbol) → IsWord (codes "times") a ts → IsLine x.0 a x.1)
+times_takes : (version : ℕ) (ts : List Symbol)
+    → Each (times_at ts) (λ x. (a : List Symbol) → IsWord (codes "times") a ts → IsLine version x.0 a x.1)
 unfolding times_at
-times_takes ts = and_then (name_takes ts)
+times_takes version ts = and_then (name_takes ts)
     (λ x n. and_then (name_takes x.1) (λ y m. and_then (sign_takes (codes "=") y.1) (λ a s.
     and_then (names_takes a) (λ ps p. done (λ t w. IsLine.times w n m s p)))))
 
-line_takes : (ts : List Symbol) → Each (line_at ts) (λ x. IsLine x.0 ts x.1)
+named_takes : (version : ℕ) (x : List ℕ) (ts : List Symbol) → Each (named_at version x ts)
+    (λ y. (a b : List Symbol) → IsWord (codes "test") a b → IsName x b ts → IsLine version y.0 a y.1)
+unfolding named_at
+named_takes version x ts = only_when (nat_le 2 version)
+    (λ e. and_then (sign_takes (codes "=") ts)
+    (λ a s. and_then (test_takes a) (λ t d. done (λ b c w n. IsLine.named (grind (arith, nat_tests)) w n s d))))
+
+test_line_takes : (version : ℕ) (ts : List Symbol) → Each (test_line_at version ts)
+    (λ x. (a : List Symbol) → IsWord (codes "test") a ts → IsLine version x.0 a x.1)
+unfolding test_line_at
+test_line_takes version ts = either (name_takes ts)
+    (λ x n. then_is (named_takes version x.0 x.1) (λ y d a w. d a ts w n))
+    (and_then (test_takes ts) (λ t d. done (λ a w. IsLine.test w d)))
+
+line_takes : (version : ℕ) (ts : List Symbol) → Each (line_at version ts) (λ x. IsLine version x.0 ts x.1)
 unfolding line_at
-line_takes ts = either (word_takes (codes "columns") ts)
+line_takes version ts = either (word_takes (codes "columns") ts)
     (λ a w. and_then (list_takes _ item_takes item_takes a) (λ xs d. done (IsLine.columns w d)))
     (either (word_takes (codes "labels") ts) (λ a w. and_then (names_takes a) (λ xs d. done (IsLine.labels w d)))
-    (either (word_takes (codes "measure") ts) (λ a w. then_is (measure_takes a) (λ x d. d ts w))
-    (either (word_takes (codes "table") ts) (λ a w. then_is (table_takes a) (λ x d. d ts w))
-    (either (word_takes (codes "times") ts) (λ a w. then_is (times_takes a) (λ x d. d ts w))
+    (either (word_takes (codes "measure") ts) (λ a w. then_is (measure_takes version a) (λ x d. d ts w))
+    (either (word_takes (codes "table") ts) (λ a w. then_is (table_takes version a) (λ x d. d ts w))
+    (either (word_takes (codes "times") ts) (λ a w. then_is (times_takes version a) (λ x d. d ts w))
     (either (word_takes (codes "generate") ts) (λ a w. and_then (shape_takes a) (λ s d. done (IsLine.generate w d)))
-    (either (word_takes (codes "test") ts) (λ a w. and_then (test_takes a) (λ t d. done (IsLine.test w d)))
+    (either (word_takes (codes "test") ts) (λ a w. then_is (test_line_takes version a) (λ x d. d ts w))
+    (either (later_takes (codes "keep") ts) (λ a w. and_then (keep_takes a) (λ x d. done (IsLine.keep w d)))
     (and_then (word_takes (codes "aggregate") ts)
-    (λ a w. and_then (goal_takes a) (λ x d. done (IsLine.aggregate w d))))))))))
+    (λ a w. and_then (goal_takes a) (λ x d. done (IsLine.aggregate w d)))))))))))
 
-ended_takes : (x : KindTree) (ts rest : List Symbol) → IsLine x ts rest → Each (ended_by x rest) (λ y. IsPart y ts)
-ended_takes x ts [] d = done d
-ended_takes x ts (t ∷ more) d = nothing
+ended_takes : (version : ℕ) (x : KindTree) (ts rest : List Symbol) → IsLine version x ts rest
+    → Each (ended_by x rest) (λ y. IsPart version y ts)
+ended_takes version x ts [] d = done d
+ended_takes version x ts (t ∷ more) d = nothing
 
-pub part_takes : (ts : List Symbol) → Each (part_at ts) (λ x. IsPart x ts)
+pub part_takes : (version : ℕ) (ts : List Symbol) → Each (part_at version ts) (λ x. IsPart version x ts)
 unfolding part_at
-part_takes ts = and_then (line_takes ts) (λ x d. ended_takes x.0 ts x.1 d)
+part_takes version ts = and_then (line_takes version ts) (λ x d. ended_takes version x.0 ts x.1 d)

@@ -1,3 +1,4 @@
+pub mod Sources
 pub mod Rules
 pub mod Refusals
 pub mod Faults

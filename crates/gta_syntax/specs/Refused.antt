@@ -1,5 +1,5 @@
 -- Which refusal the bytes of a specification get, by whole lines and the grammar.
-use Rattle.std.specs.Prelude.{◌≡◌, ℕ, true, false, List, [], ◌∷◌, Option, None, Ok, Err}
+use Rattle.std.specs.Prelude.{◌≡◌, ℕ, true, false, List, [], ◌∷◌, Option, Some, None, Ok, Err}
 use Rattle.std.specs.List.{list_any}
 use Rattle.gta_text.specs.Text.{Numbered, BadByte, read_lines}
 use Rattle.gta_syntax.specs.declared.fault.SpecFault.{SpecFault}
@@ -7,24 +7,24 @@ use Rattle.gta_syntax.specs.declared.fault.SpecFault.TheVariants.{Byte, Version,
 use Rattle.gta_spec.specs.Parts.{KindTree, PartTree}
 use Rattle.gta_spec.specs.Symbols.{symbols}
 use Rattle.gta_spec.specs.Grammar.{IsPart}
-use Rattle.gta_spec.specs.SpecText.{is_version, has_past, AreParts}
+use Rattle.gta_spec.specs.SpecText.{version_in, has_past, AreParts}
 
 -- the first line that is not in the grammar has this number
-pub data IsFirstOutside (source : List ℕ) : List Numbered → ℕ → Type 0 where
+pub data IsFirstOutside (version : ℕ) (source : List ℕ) : List Numbered → ℕ → Type 0 where
   here : {line : Numbered} {lines : List Numbered}
-      → ((kind : KindTree) → IsPart kind (symbols source line.tokens) → ⊥)
-      → IsFirstOutside source (line ∷ lines) line.number
+      → ((kind : KindTree) → IsPart version kind (symbols version source line.tokens) → ⊥)
+      → IsFirstOutside version source (line ∷ lines) line.number
   later : {line : Numbered} {lines : List Numbered} {kind : KindTree} {n : ℕ}
-      → IsPart kind (symbols source line.tokens)
-      → IsFirstOutside source lines n → IsFirstOutside source (line ∷ lines) n
+      → IsPart version kind (symbols version source line.tokens)
+      → IsFirstOutside version source lines n → IsFirstOutside version source (line ∷ lines) n
 
 -- the first line that has a number past the bound has this number
-pub data IsFirstPast (source : List ℕ) : List Numbered → ℕ → Type 0 where
-  here : {line : Numbered} {lines : List Numbered} → has_past source line.tokens ≡ true
-      → IsFirstPast source (line ∷ lines) line.number
-  later : {line : Numbered} {lines : List Numbered} {n : ℕ} → has_past source line.tokens ≡ false
-      → IsFirstPast source lines n
-      → IsFirstPast source (line ∷ lines) n
+pub data IsFirstPast (version : ℕ) (source : List ℕ) : List Numbered → ℕ → Type 0 where
+  here : {line : Numbered} {lines : List Numbered} → has_past version source line.tokens ≡ true
+      → IsFirstPast version source (line ∷ lines) line.number
+  later : {line : Numbered} {lines : List Numbered} {n : ℕ} → has_past version source line.tokens ≡ false
+      → IsFirstPast version source lines n
+      → IsFirstPast version source (line ∷ lines) n
 
 -- the refusals in their order: each stands only where those before it don't
 pub data IsRefused (bytes : List ℕ) : SpecFault → Type 0 where
@@ -33,18 +33,18 @@ pub data IsRefused (bytes : List ℕ) : SpecFault → Type 0 where
       → IsRefused bytes (Version 1)
   version : {first : Numbered} {others : List Numbered} {rows : Option ℕ}
       → read_lines bytes ≡ Ok (record { lines = first ∷ others; rows_at = rows })
-      → is_version bytes first.tokens ≡ false
+      → version_in bytes first.tokens ≡ None
       → IsRefused bytes (Version first.number)
-  grammar : {first : Numbered} {others : List Numbered} {rows : Option ℕ} {n : ℕ}
+  grammar : {first : Numbered} {others : List Numbered} {rows : Option ℕ} {version n : ℕ}
       → read_lines bytes ≡ Ok (record { lines = first ∷ others; rows_at = rows })
-      → is_version bytes first.tokens ≡ true
-      → IsFirstOutside bytes others n → IsRefused bytes (Grammar n)
-  number : {first : Numbered} {others : List Numbered} {rows : Option ℕ} {parts : List PartTree} {n : ℕ}
+      → version_in bytes first.tokens ≡ Some version
+      → IsFirstOutside version bytes others n → IsRefused bytes (Grammar n)
+  number : {first : Numbered} {others : List Numbered} {rows : Option ℕ} {parts : List PartTree} {version n : ℕ}
       → read_lines bytes ≡ Ok (record { lines = first ∷ others; rows_at = rows })
-      → is_version bytes first.tokens ≡ true
-      → AreParts bytes others parts → IsFirstPast bytes others n → IsRefused bytes (Number n)
-  no_rows : {first : Numbered} {others : List Numbered} {parts : List PartTree}
+      → version_in bytes first.tokens ≡ Some version
+      → AreParts version bytes others parts → IsFirstPast version bytes others n → IsRefused bytes (Number n)
+  no_rows : {first : Numbered} {others : List Numbered} {parts : List PartTree} {version : ℕ}
       → read_lines bytes ≡ Ok (record { lines = first ∷ others; rows_at = None })
-      → is_version bytes first.tokens ≡ true
-      → AreParts bytes others parts → list_any (λ line. has_past bytes line.tokens) others ≡ false
+      → version_in bytes first.tokens ≡ Some version
+      → AreParts version bytes others parts → list_any (λ line. has_past version bytes line.tokens) others ≡ false
       → IsRefused bytes NoRows

@@ -1,6 +1,6 @@
 -- Reading a line from left to right: for each rule of the grammar what it says, and the symbols left.
 use Rattle.std.specs.Prelude.{◌≡◌, ℕ, zero, suc, Bool, true, false, ◌||◌, List, [], ◌∷◌, length, ℤ, pos, neg_ℤ}
-use Rattle.std.specs.Prelude.{Option, Some, None, Result, Ok, Err, if◌then◌else◌, codes, is_some}
+use Rattle.std.specs.Prelude.{nat_le, nat_lt, Option, Some, None, Result, Ok, Err, if◌then◌else◌, codes, is_some}
 use Rattle.std.specs.Str.{bytes_eq}
 use Rattle.shape_gen.specs.declared.shape.Shape.{Shape}
 use Rattle.shape_gen.specs.declared.shape.Shape.TheVariants as shapes
@@ -14,12 +14,17 @@ use Rattle.gta_spec.specs.declared.parts.Cmp.TheVariants.{AtMost, AtLeast, Equal
 use Rattle.gta_spec.specs.declared.parts.Check.{Check}
 use Rattle.gta_spec.specs.declared.parts.Check.TheVariants.{Compare, Mod}
 use Rattle.gta_spec.specs.declared.parts.GoalPart.{GoalPart}
-use Rattle.gta_spec.specs.declared.parts.GoalPart.TheVariants.{Count, Any, Max, Min, Best}
+use Rattle.gta_spec.specs.declared.parts.GoalPart.TheVariants.{Count, Any, Max, Min, Best, Ranked}
+use Rattle.gta_spec.specs.declared.parts.RankPart.{RankPart}
+use Rattle.gta_spec.specs.declared.limits.TheConstants.{KEPT_NAME_LIMIT, NESTING_LIMIT, RANK_LIMIT}
 use Rattle.gta_syntax.specs.declared.fault.LineFault.{LineFault}
 use Rattle.gta_syntax.specs.declared.fault.LineFault.TheVariants as faults
 use Rattle.gta_spec.specs.Parts.{CaseTree, PickTree, TestTree, Sum, Length, Fold, KindTree, Columns, Labels, Measure}
-use Rattle.gta_spec.specs.Parts.{Table, Times, Generate, Test, Aggregate}
-use Rattle.gta_spec.specs.Symbols.{Symbol, Word, Digits, Text, Sign, Stray}
+use Rattle.gta_spec.specs.Parts.{Table, Times, Generate, Test, Named, Keep, Aggregate}
+use Rattle.gta_spec.specs.Symbols.{Symbol, Word, Later, Digits, Text, Sign, Stray}
+use Rattle.gta_spec.specs.Keep as keeps
+use Rattle.gta_spec.specs.Keep.{all_of, any_of}
+use Rattle.gta_spec.specs.Grammar.{Expr, names_among}
 
 infixl 10 ◌>>=◌
 abbrev pub ◌>>=◌ : {A B : Type 0} → Option A → (A → Option B) → Option B
@@ -43,14 +48,25 @@ Gives view (Err fault) read = Fails fault read
 unfoldable pub word_at : List ℕ → List Symbol → Option (List Symbol)
 word_at w [] = None
 word_at w (Word x ∷ rest) = if bytes_eq x w then Some rest else None
+word_at w (Later x ∷ rest) = None
 word_at w (Digits n ∷ rest) = None
 word_at w (Text x ∷ rest) = None
 word_at w (Sign s ∷ rest) = None
 word_at w (Stray ∷ rest) = None
 
+unfoldable pub later_at : List ℕ → List Symbol → Option (List Symbol)
+later_at w [] = None
+later_at w (Word x ∷ rest) = None
+later_at w (Later x ∷ rest) = if bytes_eq x w then Some rest else None
+later_at w (Digits n ∷ rest) = None
+later_at w (Text x ∷ rest) = None
+later_at w (Sign s ∷ rest) = None
+later_at w (Stray ∷ rest) = None
+
 unfoldable pub sign_at : List ℕ → List Symbol → Option (List Symbol)
 sign_at s [] = None
 sign_at s (Word x ∷ rest) = None
+sign_at s (Later x ∷ rest) = None
 sign_at s (Digits n ∷ rest) = None
 sign_at s (Text x ∷ rest) = None
 sign_at s (Sign x ∷ rest) = if bytes_eq x s then Some rest else None
@@ -59,6 +75,7 @@ sign_at s (Stray ∷ rest) = None
 unfoldable pub digits_at : List Symbol → Option (ℕ × List Symbol)
 digits_at [] = None
 digits_at (Word x ∷ rest) = None
+digits_at (Later x ∷ rest) = None
 digits_at (Digits n ∷ rest) = Some (n, rest)
 digits_at (Text x ∷ rest) = None
 digits_at (Sign x ∷ rest) = None
@@ -67,6 +84,7 @@ digits_at (Stray ∷ rest) = None
 unfoldable pub text_at : List Symbol → Option (List ℕ × List Symbol)
 text_at [] = None
 text_at (Word x ∷ rest) = None
+text_at (Later x ∷ rest) = None
 text_at (Digits n ∷ rest) = None
 text_at (Text x ∷ rest) = Some (x, rest)
 text_at (Sign x ∷ rest) = None
@@ -75,6 +93,7 @@ text_at (Stray ∷ rest) = None
 unfoldable pub name_at : List Symbol → Option (List ℕ × List Symbol)
 name_at [] = None
 name_at (Word x ∷ rest) = if is_name_text x then Some (x, rest) else None
+name_at (Later x ∷ rest) = None
 name_at (Digits n ∷ rest) = None
 name_at (Text x ∷ rest) = None
 name_at (Sign x ∷ rest) = None
@@ -105,6 +124,9 @@ begins_name ts = is_some (name_at ts)
 
 abbrev pub begins_word : List ℕ → List Symbol → Bool
 begins_word w ts = is_some (word_at w ts)
+
+abbrev pub begins_later : List ℕ → List Symbol → Bool
+begins_later w ts = is_some (later_at w ts)
 
 abbrev pub begins_sign : List ℕ → List Symbol → Bool
 begins_sign s ts = is_some (sign_at s ts)
@@ -263,27 +285,98 @@ end_at ts = choose (word_at (codes "max") ts) (λ a. Some (true, a))
       a ← word_at (codes "min") ts
       Some (false, a))
 
+unfoldable pub first_rank_at : List Symbol → Option (RankPart × List Symbol)
+first_rank_at ts = do
+  e ← end_at ts
+  x ← name_at e.1
+  Some (record { greatest = e.0; name = x.0 }, x.1)
+
+unfoldable pub next_rank_at : List Symbol → Option (RankPart × List Symbol)
+next_rank_at ts = do
+  a ← later_at (codes "then") ts
+  first_rank_at a
+
+-- a first rank and the others, where they are not too many
+unfoldable pub ranks_at : List Symbol → Option ((RankPart × List RankPart) × List Symbol)
+ranks_at ts = do
+  x ← first_rank_at ts
+  xs ← many (begins_later (codes "then")) next_rank_at (length x.1) x.1
+  if nat_lt (length xs.0) RANK_LIMIT then Some ((x.0, xs.0), xs.1) else None
+
+-- what ranks ask for, where no number of candidates is said
+abbrev pub goal_of : RankPart → List RankPart → GoalPart
+goal_of rank [] = if rank.greatest then Max rank.name else Min rank.name
+goal_of rank (next ∷ others) = Ranked None (rank ∷ next ∷ others)
+
+-- the best k by these ranks
+abbrev pub best_of : ℕ → RankPart → List RankPart → GoalPart
+best_of k rank [] = Best k rank.greatest rank.name
+best_of k rank (next ∷ others) = Ranked (Some k) (rank ∷ next ∷ others)
+
 unfoldable pub best_at : List Symbol → Option (GoalPart × List Symbol)
 best_at ts = do
   k ← digits_at ts
-  e ← end_at k.1
-  x ← name_at e.1
-  Some (Best k.0 e.0 x.0, x.1)
+  xs ← ranks_at k.1
+  Some (best_of k.0 xs.0.0 xs.0.1, xs.1)
 
 unfoldable pub goal_at : List Symbol → Option (GoalPart × List Symbol)
 goal_at ts = choose (word_at (codes "count") ts) (λ a. Some (Count, a))
     (choose (word_at (codes "any") ts) (λ a. Some (Any, a))
-    (choose (word_at (codes "max") ts)
-    (λ a. do
-      x ← name_at a
-      Some (Max x.0, x.1))
-    (choose (word_at (codes "min") ts)
-    (λ a. do
-      x ← name_at a
-      Some (Min x.0, x.1))
+    (choose (word_at (codes "best") ts) (λ a. best_at a)
     (do
-      a ← word_at (codes "best") ts
-      best_at a))))
+      xs ← ranks_at ts
+      Some (goal_of xs.0.0 xs.0.1, xs.1))))
+
+-- a reading of an expression, or of a piece of one
+abbrev pub Reading : Type 0
+Reading = List Symbol → Option (Expr × List Symbol)
+
+-- lit { "and" lit }
+unfoldable pub and_lit_with : Reading → Reading
+and_lit_with lit ts = do
+  a ← word_at (codes "and") ts
+  lit a
+
+unfoldable pub conj_with : Reading → Reading
+conj_with lit ts = do
+  x ← lit ts
+  xs ← many (begins_word (codes "and")) (and_lit_with lit) (length x.1) x.1
+  Some (all_of x.0 xs.0, xs.1)
+
+-- conj { "or" conj }
+unfoldable pub or_conj_with : Reading → Reading
+or_conj_with lit ts = do
+  a ← later_at (codes "or") ts
+  conj_with lit a
+
+unfoldable pub expr_with : Reading → Reading
+expr_with lit ts = do
+  x ← conj_with lit ts
+  xs ← many (begins_later (codes "or")) (or_conj_with lit) (length x.1) x.1
+  Some (any_of x.0 xs.0, xs.1)
+
+-- a literal, by how the literals within it are read
+unfoldable pub lit_over : Reading → Reading
+lit_over inner ts = choose (later_at (codes "not") ts)
+    (λ a. do
+      x ← inner a
+      Some (keeps.Not x.0, x.1))
+    (choose (sign_at (codes "(") ts)
+    (λ a. do
+      x ← expr_with inner a
+      b ← sign_at (codes ")") x.1
+      Some (x.0, b))
+    (do
+      x ← name_at ts
+      Some (keeps.Test x.0, x.1)))
+
+-- a literal, with at most so many `not` and pairs of parentheses around any place
+unfoldable pub lit_at : ℕ → Reading
+lit_at zero = lit_over (λ ts. None)
+lit_at (suc n) = lit_over (lit_at n)
+
+unfoldable pub keep_at : Reading
+keep_at ts = if nat_le (names_among ts) KEPT_NAME_LIMIT then expr_with (lit_at NESTING_LIMIT) ts else None
 
 unfoldable pub measure_at : List Symbol → Option (KindTree × List Symbol)
 measure_at ts = do
@@ -315,18 +408,32 @@ kind_as make read = do
   x ← read
   Some (make x.0, x.1)
 
-unfoldable pub line_at : List Symbol → Option (KindTree × List Symbol)
-line_at ts =
+-- `= test` behind a name, from version 2 on
+unfoldable pub named_at : ℕ → List ℕ → List Symbol → Option (KindTree × List Symbol)
+named_at version x ts =
+    if nat_le 2 version then (do
+      a ← sign_at (codes "=") ts
+      t ← test_at a
+      Some (Named x t.0, t.1))
+    else None
+
+-- what follows the word that begins a line `test`
+unfoldable pub test_line_at : ℕ → List Symbol → Option (KindTree × List Symbol)
+test_line_at version ts = choose (name_at ts) (λ x. named_at version x.0 x.1) (kind_as Test (test_at ts))
+
+unfoldable pub line_at : ℕ → List Symbol → Option (KindTree × List Symbol)
+line_at version ts =
     choose (word_at (codes "columns") ts) (λ a. kind_as Columns (list_at item_at begins_name item_at a))
     (choose (word_at (codes "labels") ts) (λ a. kind_as Labels (names_at a))
     (choose (word_at (codes "measure") ts) (λ a. measure_at a)
     (choose (word_at (codes "table") ts) (λ a. table_at a)
     (choose (word_at (codes "times") ts) (λ a. times_at a)
     (choose (word_at (codes "generate") ts) (λ a. kind_as Generate (shape_at a))
-    (choose (word_at (codes "test") ts) (λ a. kind_as Test (test_at a))
+    (choose (word_at (codes "test") ts) (λ a. test_line_at version a)
+    (choose (later_at (codes "keep") ts) (λ a. kind_as Keep (keep_at a))
     (do
       a ← word_at (codes "aggregate") ts
-      kind_as Aggregate (goal_at a))))))))
+      kind_as Aggregate (goal_at a)))))))))
 
 -- x, where nothing is left
 abbrev pub ended_by : {A : Type 0} → A → List Symbol → Option A
@@ -334,7 +441,7 @@ ended_by x [] = Some x
 ended_by x (t ∷ ts) = None
 
 -- the whole line
-unfoldable pub part_at : List Symbol → Option KindTree
-part_at ts = do
-  x ← line_at ts
+unfoldable pub part_at : ℕ → List Symbol → Option KindTree
+part_at version ts = do
+  x ← line_at version ts
   ended_by x.0 x.1

@@ -5,14 +5,17 @@
 #![tactic(auto)]
 
 mod fault;
+mod goals;
+mod keep;
 mod law;
 mod line_rules;
 mod measures;
 mod reading;
 mod rules;
+mod source;
 mod symbols;
 
 pub use fault::SpecFault;
 pub use gta_spec::Spec;
 pub use law::reading_is_the_grammar;
-pub use reading::{Read, read_spec};
+pub use reading::{Read, first_version, read_spec};

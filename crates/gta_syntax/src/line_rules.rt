@@ -2,24 +2,27 @@
 //! gives.
 ghost use Rattle.std.specs.Prelude.{◌≡◌, codes, map};
 ghost use Rattle.gta_spec.specs.Parts.{test_tree, kind_tree};
-ghost use Rattle.gta_spec.specs.Symbols.{symbols};
-ghost use Rattle.gta_syntax.specs.Rules.{Gives, check_at, fold_at, test_at, shape_at, end_at};
-ghost use Rattle.gta_syntax.specs.Rules.{best_at, goal_at, measure_at, table_at, times_at, line_at};
+ghost use Rattle.gta_syntax.specs.Sources.{symbols_in};
+ghost use Rattle.gta_syntax.specs.Rules.{Gives, check_at, fold_at, test_at, shape_at};
+ghost use Rattle.gta_syntax.specs.Rules.{measure_at, table_at, times_at, named_at, test_line_at, line_at};
 ghost use Rattle.gta_syntax.specs.Rules.{part_at};
 
 use crate::fault::LineFault;
+use crate::goals::goal_at;
+use crate::keep::keep_at;
 use crate::measures::{cases_at, picks_at};
 use crate::rules::{cmp_at, items_at, names_at, num_at};
-use crate::symbols::{digits_at, name_at, sign_at, word, word_at};
-use gta_spec::{Check, GoalPart, MeasurePart, PartKind, TablePart, TestPart, TimesPart};
-use gta_text::Token;
+use crate::source::Source;
+use crate::symbols::{digits_at, later, name_at, sign_at, word, word_at, word_of_name};
+use gta_spec::{Check, MeasurePart, PartKind, TablePart, TestPart, TimesPart};
+use gta_text::{Name, Token};
 use shape_gen::Shape;
 use std::alloc::Global;
 
 #[tactic(auto, unfolding(crate::specs::Rules::check_at))]
-fn check_at<'t>(source: &[u8], tokens: &'t [Token]) -> Result<(Check, &'t [Token]), LineFault>
-    ensures { Gives (λ x. (x.0, symbols source.now x.1.now)) result
-        (check_at (symbols source.now tokens.now)) }
+fn check_at<'t>(source: Source<'_>, tokens: &'t [Token]) -> Result<(Check, &'t [Token]), LineFault>
+    ensures { Gives (λ x. (x.0, symbols_in source.entry x.1.now)) result
+        (check_at (symbols_in source.entry tokens.now)) }
 {
     if let Some(rest) = word(source, b"mod", tokens) {
         let (modulus, rest) = digits_at(source, rest)?;
@@ -35,11 +38,11 @@ fn check_at<'t>(source: &[u8], tokens: &'t [Token]) -> Result<(Check, &'t [Token
 #[tactic(auto, unfolding(crate::specs::Rules::fold_at))]
 fn fold_at<'t>(
     alloc: Global,
-    source: &[u8],
+    source: Source<'_>,
     tokens: &'t [Token],
 ) -> Result<(TestPart, &'t [Token]), LineFault>
-    ensures { Gives (λ x. (test_tree x.0, symbols source.now x.1.now)) result
-        (fold_at (symbols source.now tokens.now)) }
+    ensures { Gives (λ x. (test_tree x.0, symbols_in source.entry x.1.now)) result
+        (fold_at (symbols_in source.entry tokens.now)) }
 {
     let (table, rest) = name_at(alloc, source, tokens)?;
     let rest = word_at(source, b"by", rest)?;
@@ -59,11 +62,11 @@ fn fold_at<'t>(
 #[tactic(auto, unfolding(crate::specs::Rules::test_at))]
 fn test_at<'t>(
     alloc: Global,
-    source: &[u8],
+    source: Source<'_>,
     tokens: &'t [Token],
 ) -> Result<(TestPart, &'t [Token]), LineFault>
-    ensures { Gives (λ x. (test_tree x.0, symbols source.now x.1.now)) result
-        (test_at (symbols source.now tokens.now)) }
+    ensures { Gives (λ x. (test_tree x.0, symbols_in source.entry x.1.now)) result
+        (test_at (symbols_in source.entry tokens.now)) }
 {
     if let Some(rest) = word(source, b"sum", tokens) {
         let (name, rest) = name_at(alloc, source, rest)?;
@@ -79,9 +82,9 @@ fn test_at<'t>(
 }
 
 #[tactic(auto, unfolding(crate::specs::Rules::shape_at))]
-fn shape_at<'t>(source: &[u8], tokens: &'t [Token]) -> Result<(Shape, &'t [Token]), LineFault>
-    ensures { Gives (λ x. (x.0, symbols source.now x.1.now)) result
-        (shape_at (symbols source.now tokens.now)) }
+fn shape_at<'t>(source: Source<'_>, tokens: &'t [Token]) -> Result<(Shape, &'t [Token]), LineFault>
+    ensures { Gives (λ x. (x.0, symbols_in source.entry x.1.now)) result
+        (shape_at (symbols_in source.entry tokens.now)) }
 {
     if let Some(rest) = word(source, b"sublists", tokens) {
         return Ok((Shape::Sublists, rest));
@@ -99,69 +102,14 @@ fn shape_at<'t>(source: &[u8], tokens: &'t [Token]) -> Result<(Shape, &'t [Token
     Ok((Shape::Assign, rest))
 }
 
-/// Whether the greatest is asked for, or the least.
-#[tactic(auto, unfolding(crate::specs::Rules::end_at))]
-fn end_at<'t>(source: &[u8], tokens: &'t [Token]) -> Result<(bool, &'t [Token]), LineFault>
-    ensures { Gives (λ x. (x.0, symbols source.now x.1.now)) result
-        (end_at (symbols source.now tokens.now)) }
-{
-    if let Some(rest) = word(source, b"max", tokens) {
-        return Ok((true, rest));
-    }
-    let rest = word_at(source, b"min", tokens)?;
-    Ok((false, rest))
-}
-
-#[tactic(auto, unfolding(crate::specs::Rules::best_at))]
-fn best_at<'t>(
-    alloc: Global,
-    source: &[u8],
-    tokens: &'t [Token],
-) -> Result<(GoalPart, &'t [Token]), LineFault>
-    ensures { Gives (λ x. (x.0, symbols source.now x.1.now)) result
-        (best_at (symbols source.now tokens.now)) }
-{
-    let (k, rest) = digits_at(source, tokens)?;
-    let (greatest, rest) = end_at(source, rest)?;
-    let (name, rest) = name_at(alloc, source, rest)?;
-    Ok((GoalPart::Best { k, greatest, name }, rest))
-}
-
-#[tactic(auto, unfolding(crate::specs::Rules::goal_at))]
-fn goal_at<'t>(
-    alloc: Global,
-    source: &[u8],
-    tokens: &'t [Token],
-) -> Result<(GoalPart, &'t [Token]), LineFault>
-    ensures { Gives (λ x. (x.0, symbols source.now x.1.now)) result
-        (goal_at (symbols source.now tokens.now)) }
-{
-    if let Some(rest) = word(source, b"count", tokens) {
-        return Ok((GoalPart::Count, rest));
-    }
-    if let Some(rest) = word(source, b"any", tokens) {
-        return Ok((GoalPart::Any, rest));
-    }
-    if let Some(rest) = word(source, b"max", tokens) {
-        let (name, rest) = name_at(alloc, source, rest)?;
-        return Ok((GoalPart::Max(name), rest));
-    }
-    if let Some(rest) = word(source, b"min", tokens) {
-        let (name, rest) = name_at(alloc, source, rest)?;
-        return Ok((GoalPart::Min(name), rest));
-    }
-    let rest = word_at(source, b"best", tokens)?;
-    best_at(alloc, source, rest)
-}
-
 #[tactic(auto, unfolding(crate::specs::Rules::measure_at))]
 fn measure_at<'t>(
     alloc: Global,
-    source: &[u8],
+    source: Source<'_>,
     tokens: &'t [Token],
 ) -> Result<(PartKind, &'t [Token]), LineFault>
-    ensures { Gives (λ x. (kind_tree x.0, symbols source.now x.1.now)) result
-        (measure_at (symbols source.now tokens.now)) }
+    ensures { Gives (λ x. (kind_tree x.0, symbols_in source.entry x.1.now)) result
+        (measure_at (symbols_in source.entry tokens.now)) }
 {
     let (name, rest) = name_at(alloc, source, tokens)?;
     let rest = sign_at(source, b"=", rest)?;
@@ -172,11 +120,11 @@ fn measure_at<'t>(
 #[tactic(auto, unfolding(crate::specs::Rules::table_at))]
 fn table_at<'t>(
     alloc: Global,
-    source: &[u8],
+    source: Source<'_>,
     tokens: &'t [Token],
 ) -> Result<(PartKind, &'t [Token]), LineFault>
-    ensures { Gives (λ x. (kind_tree x.0, symbols source.now x.1.now)) result
-        (table_at (symbols source.now tokens.now)) }
+    ensures { Gives (λ x. (kind_tree x.0, symbols_in source.entry x.1.now)) result
+        (table_at (symbols_in source.entry tokens.now)) }
 {
     let (name, rest) = name_at(alloc, source, tokens)?;
     let rest = word_at(source, b"unit", rest)?;
@@ -196,11 +144,11 @@ fn table_at<'t>(
 #[tactic(auto, unfolding(crate::specs::Rules::times_at))]
 fn times_at<'t>(
     alloc: Global,
-    source: &[u8],
+    source: Source<'_>,
     tokens: &'t [Token],
 ) -> Result<(PartKind, &'t [Token]), LineFault>
-    ensures { Gives (λ x. (kind_tree x.0, symbols source.now x.1.now)) result
-        (times_at (symbols source.now tokens.now)) }
+    ensures { Gives (λ x. (kind_tree x.0, symbols_in source.entry x.1.now)) result
+        (times_at (symbols_in source.entry tokens.now)) }
 {
     let (table, rest) = name_at(alloc, source, tokens)?;
     let (element, rest) = name_at(alloc, source, rest)?;
@@ -216,14 +164,50 @@ fn times_at<'t>(
     ))
 }
 
+/// The test behind its name, from version 2 on.
+#[tactic(auto, unfolding(crate::specs::Rules::named_at))]
+fn named_at<'t>(
+    alloc: Global,
+    source: Source<'_>,
+    name: &[u8],
+    tokens: &'t [Token],
+) -> Result<(PartKind, &'t [Token]), LineFault>
+    ensures { Gives (λ x. (kind_tree x.0, symbols_in source.entry x.1.now)) result
+        (named_at source.entry.version name.now (symbols_in source.entry tokens.now)) }
+{
+    if source.version < 2 {
+        return Err(LineFault::Grammar);
+    }
+    let rest = sign_at(source, b"=", tokens)?;
+    let (test, rest) = test_at(alloc, source, rest)?;
+    let name = Name::of(alloc, name)?;
+    Ok((PartKind::Named { name, test }, rest))
+}
+
+#[tactic(auto, unfolding(crate::specs::Rules::test_line_at))]
+fn test_line_at<'t>(
+    alloc: Global,
+    source: Source<'_>,
+    tokens: &'t [Token],
+) -> Result<(PartKind, &'t [Token]), LineFault>
+    ensures { Gives (λ x. (kind_tree x.0, symbols_in source.entry x.1.now)) result
+        (test_line_at source.entry.version (symbols_in source.entry tokens.now)) }
+{
+    if let Some((name, rest)) = word_of_name(source, tokens) {
+        return named_at(alloc, source, name, rest);
+    }
+    let (test, rest) = test_at(alloc, source, tokens)?;
+    Ok((PartKind::Test(test), rest))
+}
+
 #[tactic(auto, unfolding(crate::specs::Rules::line_at))]
 fn line_at<'t>(
     alloc: Global,
-    source: &[u8],
+    source: Source<'_>,
     tokens: &'t [Token],
 ) -> Result<(PartKind, &'t [Token]), LineFault>
-    ensures { Gives (λ x. (kind_tree x.0, symbols source.now x.1.now)) result
-        (line_at (symbols source.now tokens.now)) }
+    ensures { Gives (λ x. (kind_tree x.0, symbols_in source.entry x.1.now)) result
+        (line_at source.entry.version (symbols_in source.entry tokens.now)) }
 {
     if let Some(rest) = word(source, b"columns", tokens) {
         let (items, rest) = items_at(alloc, source, rest)?;
@@ -247,8 +231,11 @@ fn line_at<'t>(
         return Ok((PartKind::Generate(shape), rest));
     }
     if let Some(rest) = word(source, b"test", tokens) {
-        let (test, rest) = test_at(alloc, source, rest)?;
-        return Ok((PartKind::Test(test), rest));
+        return test_line_at(alloc, source, rest);
+    }
+    if let Some(rest) = later(source, b"keep", tokens) {
+        let (keep, rest) = keep_at(alloc, source, rest)?;
+        return Ok((PartKind::Keep(keep), rest));
     }
     let rest = word_at(source, b"aggregate", tokens)?;
     let (goal, rest) = goal_at(alloc, source, rest)?;
@@ -257,8 +244,12 @@ fn line_at<'t>(
 
 /// The part that the whole line says.
 #[tactic(auto, unfolding(crate::specs::Rules::part_at))]
-pub(crate) fn part_at(alloc: Global, source: &[u8], tokens: &[Token]) -> Result<PartKind, LineFault>
-    ensures { Gives kind_tree result (part_at (symbols source.now tokens.now)) }
+pub(crate) fn part_at(
+    alloc: Global,
+    source: Source<'_>,
+    tokens: &[Token],
+) -> Result<PartKind, LineFault>
+    ensures { Gives kind_tree result (part_at source.entry.version (symbols_in source.entry tokens.now)) }
 {
     let (part, rest) = line_at(alloc, source, tokens)?;
     if !rest.is_empty() {

@@ -5,9 +5,11 @@ ghost use Rattle.outcome_kit.specs.Outcome.{Tells};
 ghost use Rattle.gta_text.specs.Text.{line_view};
 ghost use Rattle.gta_text.specs.declared.lines.TheConstants.{INPUT_BOUND};
 ghost use Rattle.gta_spec.specs.Parts.{part_tree, SpecTree, spec_tree};
-ghost use Rattle.gta_spec.specs.Symbols.{symbol_of, symbols};
+ghost use Rattle.gta_spec.specs.Symbols.{symbol_of};
+ghost use Rattle.gta_spec.specs.Versions.{version_named};
+ghost use Rattle.gta_syntax.specs.Sources.{symbols_in};
 ghost use Rattle.gta_syntax.specs.Rules.{part_at};
-ghost use Rattle.gta_spec.specs.SpecText.{SpecText, is_version, is_past, has_past};
+ghost use Rattle.gta_spec.specs.SpecText.{SpecText, version_in, first_version, is_past, has_past};
 ghost use Rattle.gta_spec.specs.WellFormed.{IsWellFormed};
 ghost use Rattle.gta_syntax.specs.Refused.{IsRefused};
 ghost use Rattle.gta_syntax.specs.declared.fault.SpecFault.{SpecFault};
@@ -17,10 +19,11 @@ ghost use Rattle.gta_syntax.specs.Refusals.{fault_in, spec_of};
 
 use crate::fault::{LineFault, SpecFault};
 use crate::line_rules::part_at;
+use crate::source::Source;
 use crate::symbols::value_of;
 use gta_spec::{Part, Spec};
-use gta_text::{INPUT_BOUND, Line, NUMBER_BOUND, Token, TokenKind, lines_of};
-use std::alloc::Global;
+use gta_text::{INPUT_BOUND, Line, NUMBER_BOUND, Token, TokenKind, first_tokens, lines_of};
+use std::alloc::{AllocError, Global};
 
 /// A specification, and where the bytes after its line `rows` begin.
 #[derive(Debug, Drop)]
@@ -60,38 +63,60 @@ fn answer_of(alloc: Global, bytes: &[u8]) -> Result<Read, SpecFault>
     let Some((first, others)) = lines.lines.split_first() else {
         return Err(SpecFault::Version { line: 1 });
     };
-    if !is_version(bytes, &first.tokens) {
+    let Some(version) = version_in(bytes, &first.tokens) else {
         return Err(SpecFault::Version { line: first.number });
-    }
-    let parts = parts_of(alloc, bytes, others)?;
-    if let Some(line) = first_past(bytes, others) {
+    };
+    let source = Source { bytes, version };
+    let parts = parts_of(alloc, source, others)?;
+    if let Some(line) = first_past(source, others) {
         return Err(SpecFault::Number { line });
     }
     let Some(rows_at) = lines.rows_at else {
         return Err(SpecFault::NoRows);
     };
-    let spec = Spec { version: 1, parts };
+    let spec = Spec { version, parts };
     Ok(Read { spec, rows_at })
 }
 
-fn is_version(source: &[u8], tokens: &[Token]) -> bool
-    ensures { result ≡ is_version source.now tokens.now }
+/// The version that the first line with tokens names, whatever bytes the lines hold. Refuses only for want of memory.
+#[tactic(auto, unfolding(gta_spec::specs::SpecText::first_version))]
+pub fn first_version(alloc: Global, bytes: &[u8]) -> Result<Option<u8>, AllocError>
+    requires { length bytes.now ≤ INPUT_BOUND }
+    ensures { IfOk result (λ version. version ≡ first_version bytes.now) }
+{
+    let tokens = first_tokens(alloc, bytes)?;
+    Ok(version_in(bytes, &tokens))
+}
+
+/// The version that the tokens name.
+fn version_in(bytes: &[u8], tokens: &[Token]) -> Option<u8>
+    ensures { result ≡ version_in bytes.now tokens.now }
 {
     match tokens {
-        [word, digits] => {
-            word.kind == TokenKind::Word
-                && word.text(source) == b"gta".as_slice()
-                && digits.kind == TokenKind::Digits
-                && digits.text(source) == b"1".as_slice()
-        }
-        _ => false,
+        [word, digits]
+            if word.kind == TokenKind::Word
+                && word.text(bytes) == b"gta".as_slice()
+                && digits.kind == TokenKind::Digits => { version_named(digits.text(bytes)) }
+        _ => None,
+    }
+}
+
+fn version_named(digits: &[u8]) -> Option<u8>
+    ensures { result ≡ version_named digits.now }
+{
+    if digits == b"1".as_slice() {
+        Some(1)
+    } else if digits == b"2".as_slice() {
+        Some(2)
+    } else {
+        None
     }
 }
 
 /// The parts of the lines; `Grammar` names the first line that has none.
-fn parts_of(alloc: Global, source: &[u8], lines: &[Line]) -> Result<Vec<Part>, SpecFault>
+fn parts_of(alloc: Global, source: Source<'_>, lines: &[Line]) -> Result<Vec<Part>, SpecFault>
     ensures { Tells fault_in (λ parts. map part_tree parts.items)
-        (parts_from source.now (map line_view lines.now)) result }
+        (parts_from source.entry.version source.entry.bytes.now (map line_view lines.now)) result }
 {
     let mut parts = Vec::new(alloc);
     for line in lines {
@@ -101,9 +126,10 @@ fn parts_of(alloc: Global, source: &[u8], lines: &[Line]) -> Result<Vec<Part>, S
     Ok(parts)
 }
 
-fn part_of(alloc: Global, source: &[u8], line: &Line) -> Result<Part, SpecFault>
+fn part_of(alloc: Global, source: Source<'_>, line: &Line) -> Result<Part, SpecFault>
     ensures { Tells fault_in part_tree
-        (the_part line.now.number (part_at (symbols source.now line.now.tokens.items))) result }
+        (the_part line.now.number
+        (part_at source.entry.version (symbols_in source.entry line.now.tokens.items))) result }
 {
     let number = line.number;
     match part_at(alloc, source, &line.tokens) {
@@ -114,8 +140,8 @@ fn part_of(alloc: Global, source: &[u8], line: &Line) -> Result<Part, SpecFault>
 }
 
 /// The number of the first line that has a number past the bound.
-fn first_past(source: &[u8], lines: &[Line]) -> Option<u32>
-    ensures { result ≡ first_past source.now (map line_view lines.now) }
+fn first_past(source: Source<'_>, lines: &[Line]) -> Option<u32>
+    ensures { result ≡ first_past source.entry.version source.entry.bytes.now (map line_view lines.now) }
 {
     for line in lines {
         if has_past(source, &line.tokens) {
@@ -125,17 +151,17 @@ fn first_past(source: &[u8], lines: &[Line]) -> Option<u32>
     None
 }
 
-fn has_past(source: &[u8], tokens: &[Token]) -> bool
-    ensures { result ≡ has_past source.now tokens.now }
+fn has_past(source: Source<'_>, tokens: &[Token]) -> bool
+    ensures { result ≡ has_past source.entry.version source.entry.bytes.now tokens.now }
 {
     tokens.iter().any(|token| is_past(source, token))
 }
 
-fn is_past(source: &[u8], token: &Token) -> bool
-    ensures { result ≡ is_past (symbol_of source.now token.now) }
+fn is_past(source: Source<'_>, token: &Token) -> bool
+    ensures { result ≡ is_past (symbol_of source.entry.version source.entry.bytes.now token.now) }
 {
     match token.kind {
-        TokenKind::Digits => value_of(token.text(source)) > NUMBER_BOUND,
+        TokenKind::Digits => value_of(token.text(source.bytes)) > NUMBER_BOUND,
         _ => false,
     }
 }

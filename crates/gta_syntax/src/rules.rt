@@ -1,12 +1,13 @@
 //! Reading names, numbers, columns and conditions: each function gives what the definition of its
 //! name in specs/Rules.antt gives.
 ghost use Rattle.std.specs.Prelude.{◌≡◌, ℕ, length, codes};
-ghost use Rattle.gta_spec.specs.Symbols.{symbols};
+ghost use Rattle.gta_syntax.specs.Sources.{symbols_in};
 ghost use Rattle.gta_syntax.specs.Rules.{Gives, many, list_at, begins_name, begins_word, name_at};
 ghost use Rattle.gta_syntax.specs.Rules.{names_at, num_at, item_at, cmp_at, atom_at, and_at};
 ghost use Rattle.gta_syntax.specs.Rules.{cond_at, if_at};
 
 use crate::fault::LineFault;
+use crate::source::Source;
 use crate::symbols::{
     begins_name, begins_word, digits_at, name_at, sign, sign_at, text_at, word, word_at,
 };
@@ -17,11 +18,11 @@ use std::alloc::Global;
 #[tactic(auto, unfolding(crate::specs::Rules::list_at))]
 pub(crate) fn names_at<'t>(
     alloc: Global,
-    source: &[u8],
+    source: Source<'_>,
     tokens: &'t [Token],
 ) -> Result<(Vec<Name>, &'t [Token]), LineFault>
-    ensures { Gives (λ x. (x.0.items, symbols source.now x.1.now)) result
-        (names_at (symbols source.now tokens.now)) }
+    ensures { Gives (λ x. (x.0.items, symbols_in source.entry x.1.now)) result
+        (names_at (symbols_in source.entry tokens.now)) }
 {
     let (first, rest) = name_at(alloc, source, tokens)?;
     let (mut names, rest) = more_names(alloc, source, rest)?;
@@ -31,11 +32,11 @@ pub(crate) fn names_at<'t>(
 
 fn more_names<'t>(
     alloc: Global,
-    source: &[u8],
+    source: Source<'_>,
     tokens: &'t [Token],
 ) -> Result<(Vec<Name>, &'t [Token]), LineFault>
-    ensures { Gives (λ x. (x.0.items, symbols source.now x.1.now)) result
-        (many begins_name name_at (length tokens.now) (symbols source.now tokens.now)) }
+    ensures { Gives (λ x. (x.0.items, symbols_in source.entry x.1.now)) result
+        (many begins_name name_at (length tokens.now) (symbols_in source.entry tokens.now)) }
 {
     let mut names = Vec::new(alloc);
     let mut rest = tokens;
@@ -52,11 +53,11 @@ fn more_names<'t>(
 
 #[tactic(auto, unfolding(crate::specs::Rules::num_at))]
 pub(crate) fn num_at<'t>(
-    source: &[u8],
+    source: Source<'_>,
     tokens: &'t [Token],
 ) -> Result<(i64, &'t [Token]), LineFault>
-    ensures { Gives (λ x. (x.0, symbols source.now x.1.now)) result
-        (num_at (symbols source.now tokens.now)) }
+    ensures { Gives (λ x. (x.0, symbols_in source.entry x.1.now)) result
+        (num_at (symbols_in source.entry tokens.now)) }
 {
     if let Some(rest) = sign(source, b"-", tokens) {
         let (number, rest) = digits_at(source, rest)?;
@@ -69,11 +70,11 @@ pub(crate) fn num_at<'t>(
 #[tactic(auto, unfolding(crate::specs::Rules::item_at))]
 fn item_at<'t>(
     alloc: Global,
-    source: &[u8],
+    source: Source<'_>,
     tokens: &'t [Token],
 ) -> Result<(ColumnItem, &'t [Token]), LineFault>
-    ensures { Gives (λ x. (x.0, symbols source.now x.1.now)) result
-        (item_at (symbols source.now tokens.now)) }
+    ensures { Gives (λ x. (x.0, symbols_in source.entry x.1.now)) result
+        (item_at (symbols_in source.entry tokens.now)) }
 {
     let (name, rest) = name_at(alloc, source, tokens)?;
     if let Some(after) = sign(source, b"=", rest) {
@@ -88,11 +89,11 @@ fn item_at<'t>(
 #[tactic(auto, unfolding(crate::specs::Rules::list_at))]
 pub(crate) fn items_at<'t>(
     alloc: Global,
-    source: &[u8],
+    source: Source<'_>,
     tokens: &'t [Token],
 ) -> Result<(Vec<ColumnItem>, &'t [Token]), LineFault>
-    ensures { Gives (λ x. (x.0.items, symbols source.now x.1.now)) result
-        (list_at item_at begins_name item_at (symbols source.now tokens.now)) }
+    ensures { Gives (λ x. (x.0.items, symbols_in source.entry x.1.now)) result
+        (list_at item_at begins_name item_at (symbols_in source.entry tokens.now)) }
 {
     let (first, rest) = item_at(alloc, source, tokens)?;
     let (mut items, rest) = more_items(alloc, source, rest)?;
@@ -102,11 +103,11 @@ pub(crate) fn items_at<'t>(
 
 fn more_items<'t>(
     alloc: Global,
-    source: &[u8],
+    source: Source<'_>,
     tokens: &'t [Token],
 ) -> Result<(Vec<ColumnItem>, &'t [Token]), LineFault>
-    ensures { Gives (λ x. (x.0.items, symbols source.now x.1.now)) result
-        (many begins_name item_at (length tokens.now) (symbols source.now tokens.now)) }
+    ensures { Gives (λ x. (x.0.items, symbols_in source.entry x.1.now)) result
+        (many begins_name item_at (length tokens.now) (symbols_in source.entry tokens.now)) }
 {
     let mut items = Vec::new(alloc);
     let mut rest = tokens;
@@ -123,11 +124,11 @@ fn more_items<'t>(
 
 #[tactic(auto, unfolding(crate::specs::Rules::cmp_at))]
 pub(crate) fn cmp_at<'t>(
-    source: &[u8],
+    source: Source<'_>,
     tokens: &'t [Token],
 ) -> Result<(Cmp, &'t [Token]), LineFault>
-    ensures { Gives (λ x. (x.0, symbols source.now x.1.now)) result
-        (cmp_at (symbols source.now tokens.now)) }
+    ensures { Gives (λ x. (x.0, symbols_in source.entry x.1.now)) result
+        (cmp_at (symbols_in source.entry tokens.now)) }
 {
     if let Some(rest) = sign(source, b"<=", tokens) {
         return Ok((Cmp::AtMost, rest));
@@ -142,11 +143,11 @@ pub(crate) fn cmp_at<'t>(
 #[tactic(auto, unfolding(crate::specs::Rules::atom_at))]
 fn atom_at<'t>(
     alloc: Global,
-    source: &[u8],
+    source: Source<'_>,
     tokens: &'t [Token],
 ) -> Result<(AtomPart, &'t [Token]), LineFault>
-    ensures { Gives (λ x. (x.0, symbols source.now x.1.now)) result
-        (atom_at (symbols source.now tokens.now)) }
+    ensures { Gives (λ x. (x.0, symbols_in source.entry x.1.now)) result
+        (atom_at (symbols_in source.entry tokens.now)) }
 {
     if let Some(rest) = word(source, b"label", tokens) {
         let (label, rest) = name_at(alloc, source, rest)?;
@@ -161,11 +162,11 @@ fn atom_at<'t>(
 #[tactic(auto, unfolding(crate::specs::Rules::and_at))]
 fn and_at<'t>(
     alloc: Global,
-    source: &[u8],
+    source: Source<'_>,
     tokens: &'t [Token],
 ) -> Result<(AtomPart, &'t [Token]), LineFault>
-    ensures { Gives (λ x. (x.0, symbols source.now x.1.now)) result
-        (and_at (symbols source.now tokens.now)) }
+    ensures { Gives (λ x. (x.0, symbols_in source.entry x.1.now)) result
+        (and_at (symbols_in source.entry tokens.now)) }
 {
     let rest = word_at(source, b"and", tokens)?;
     atom_at(alloc, source, rest)
@@ -174,11 +175,11 @@ fn and_at<'t>(
 #[tactic(auto, unfolding(crate::specs::Rules::list_at))]
 fn cond_at<'t>(
     alloc: Global,
-    source: &[u8],
+    source: Source<'_>,
     tokens: &'t [Token],
 ) -> Result<(Vec<AtomPart>, &'t [Token]), LineFault>
-    ensures { Gives (λ x. (x.0.items, symbols source.now x.1.now)) result
-        (cond_at (symbols source.now tokens.now)) }
+    ensures { Gives (λ x. (x.0.items, symbols_in source.entry x.1.now)) result
+        (cond_at (symbols_in source.entry tokens.now)) }
 {
     let (first, rest) = atom_at(alloc, source, tokens)?;
     let (mut atoms, rest) = more_atoms(alloc, source, rest)?;
@@ -188,12 +189,12 @@ fn cond_at<'t>(
 
 fn more_atoms<'t>(
     alloc: Global,
-    source: &[u8],
+    source: Source<'_>,
     tokens: &'t [Token],
 ) -> Result<(Vec<AtomPart>, &'t [Token]), LineFault>
-    ensures { Gives (λ x. (x.0.items, symbols source.now x.1.now)) result
+    ensures { Gives (λ x. (x.0.items, symbols_in source.entry x.1.now)) result
         (many (begins_word (codes "and")) and_at (length tokens.now)
-        (symbols source.now tokens.now)) }
+        (symbols_in source.entry tokens.now)) }
 {
     let mut atoms = Vec::new(alloc);
     let mut rest = tokens;
@@ -211,11 +212,11 @@ fn more_atoms<'t>(
 #[tactic(auto, unfolding(crate::specs::Rules::if_at))]
 pub(crate) fn if_at<'t>(
     alloc: Global,
-    source: &[u8],
+    source: Source<'_>,
     tokens: &'t [Token],
 ) -> Result<(Vec<AtomPart>, &'t [Token]), LineFault>
-    ensures { Gives (λ x. (x.0.items, symbols source.now x.1.now)) result
-        (if_at (symbols source.now tokens.now)) }
+    ensures { Gives (λ x. (x.0.items, symbols_in source.entry x.1.now)) result
+        (if_at (symbols_in source.entry tokens.now)) }
 {
     match word(source, b"if", tokens) {
         Some(rest) => cond_at(alloc, source, rest),

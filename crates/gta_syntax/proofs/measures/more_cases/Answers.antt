@@ -2,7 +2,7 @@ use Rattle.std.proofs.Common.{◌≡◌, ◌+◌, ◌-◌, length, map, ◌++◌
 use Rattle.std.proofs.lemmas.Result.{err_from_is_err_and}
 use Rattle.std.proofs.lemmas.List.{map_push}
 use Rattle.gta_spec.specs.Parts.{case_tree}
-use Rattle.gta_spec.specs.Symbols.{symbols}
+use Rattle.gta_syntax.specs.Sources.{symbols_in}
 use Rattle.gta_syntax.proofs.Loops.{at_stop, at_done, at_item, at_fault}
 use Rattle.gta_syntax.proofs.measures.more_cases.Goals as goal
 
@@ -24,7 +24,7 @@ loop-preserved c =
     rw c.in_ok-push.ensures.items (map_push _ c.loop.cases.items c.in_ok-case.case) in
     rw e (at_item c.loop.invariant (sym c.if-not-begins_sign.ensures)
     (length c.args.tokens.now - (c.loop.counter + 1)) (omega (arith, c.loop-test.true))
-    (case_tree c.in_ok-case.case) (symbols c.args.source.now c.in_ok-case.after.now) c.in_ok-case.ensures)
+    (case_tree c.in_ok-case.case) (symbols_in c.args.source c.in_ok-case.after.now) c.in_ok-case.ensures)
 
 pub returns : goal.returns
 returns c = at_done c.loop.invariant (omega (arith, c.loop-test.false))

@@ -11,7 +11,7 @@ returns-then-has_past c =
     c.args.lines.now =
     drop_at _ _ c.line-item.result c.loop-line-test.true c.line-item.is in
     let so_far = rw cut at c.loop-line.invariant in
-    sym (past_here c.args.source.now (line_view c.line-item.result) _
+    sym (past_here c.args.source.version c.args.source.bytes.now (line_view c.line-item.result) _
     (rw (← c.deref.ensures.value) (sym c.if-has_past.ensures))) ∙ so_far
 
 pub loop-line-preserved : goal.loop-line-preserved
@@ -20,10 +20,10 @@ loop-line-preserved c =
     c.args.lines.now =
     drop_at _ _ c.line-item.result c.loop-line-test.true c.line-item.is in
     let so_far = rw cut at c.loop-line.invariant in
-    sym (past_later c.args.source.now (line_view c.line-item.result) _
+    sym (past_later c.args.source.version c.args.source.bytes.now (line_view c.line-item.result) _
     (rw (← c.deref.ensures.value) (sym c.if-has_past.ensures))) ∙ so_far
 
 pub returns : goal.returns
 returns c =
     let empty : drop c.loop-line.line-index c.args.lines.now ≡ [] = grind (arith, common_steps) in
-    sym (past_nowhere c.args.source.now) ∙ (rw empty at c.loop-line.invariant)
+    sym (past_nowhere c.args.source.version c.args.source.bytes.now) ∙ (rw empty at c.loop-line.invariant)

@@ -4,5 +4,5 @@ use Rattle.gta_syntax.specs.Refusals.{first_past}
 use Rattle.gta_syntax.proofs.reading.first_past.Given as goal
 
 abbrev pub invariant-loop-line : goal.invariant-loop-line
-invariant-loop-line l = first_past l.source (map line_view (drop l.line-index l.lines)) ≡ first_past l.source
-    (map line_view l.lines)
+invariant-loop-line l = first_past l.source.version l.source.bytes.now (map line_view (drop l.line-index l.lines))
+    ≡ first_past l.source.version l.source.bytes.now (map line_view l.lines)

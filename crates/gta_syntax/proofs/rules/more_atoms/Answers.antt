@@ -1,6 +1,6 @@
 use Rattle.std.proofs.Common.{◌+◌, ◌-◌, length, arith, sym}
 use Rattle.std.proofs.lemmas.Result.{err_from_is_err_and}
-use Rattle.gta_spec.specs.Symbols.{symbols}
+use Rattle.gta_syntax.specs.Sources.{symbols_in}
 use Rattle.gta_syntax.proofs.Loops.{at_stop, at_done, at_item, at_fault}
 use Rattle.gta_syntax.proofs.rules.more_atoms.Goals as goal
 
@@ -21,7 +21,7 @@ loop-preserved c =
     rw c.in_ok-push.ensures.items
     (at_item c.loop.invariant (sym c.if-not-begins_word.ensures)
     (length c.args.tokens.now - (c.loop.counter + 1)) (omega (arith, c.loop-test.true)) c.in_ok-atom.atom
-    (symbols c.args.source.now c.in_ok-atom.after.now) c.in_ok-atom.ensures)
+    (symbols_in c.args.source c.in_ok-atom.after.now) c.in_ok-atom.ensures)
 
 pub returns : goal.returns
 returns c = at_done c.loop.invariant (omega (arith, c.loop-test.false))

@@ -1,9 +1,9 @@
 use Rattle.std.specs.Prelude.{◌-◌, length}
-use Rattle.gta_spec.specs.Symbols.{symbols}
+use Rattle.gta_syntax.specs.Sources.{symbols_in}
 use Rattle.gta_syntax.specs.Rules.{many, begins_name, item_at}
 use Rattle.gta_syntax.proofs.Loops.{SoFar}
 use Rattle.gta_syntax.proofs.rules.more_items.Given as goal
 
 abbrev pub invariant-loop : goal.invariant-loop
-invariant-loop l = SoFar begins_name item_at (length l.tokens - l.counter) (l.items.items) (symbols l.source l.rest)
-    (many begins_name item_at (length l.tokens) (symbols l.source l.tokens))
+invariant-loop l = SoFar begins_name item_at (length l.tokens - l.counter) (l.items.items) (symbols_in l.source l.rest)
+    (many begins_name item_at (length l.tokens) (symbols_in l.source l.tokens))
