@@ -8,8 +8,10 @@ use Rattle.gta_spec.specs.declared.parts.GoalPart.TheVariants.{Best, Ranked}
 use Rattle.gta_spec.specs.declared.parts.RankPart.{RankPart}
 use Rattle.gta_spec.specs.declared.limits.TheConstants.{RANK_LIMIT}
 use Rattle.gta_spec.specs.Symbols.{Symbol}
-use Rattle.gta_spec.specs.Grammar.{IsDigits, IsName, IsEnd, IsFirstRank, IsNextRank, IsGoal, Listed, listed, none, behind}
-use Rattle.gta_syntax.specs.Rules.{word_at, digits_at, begins_later, end_at, first_rank_at, next_rank_at, ranks_at, best_at, goal_at}
+use Rattle.gta_spec.specs.Grammar.{IsDigits, IsName, IsEnd, IsFirstRank, IsNextRank, IsGoal}
+use Rattle.gta_spec.specs.Grammar.{Listed, listed, none, behind}
+use Rattle.gta_syntax.specs.Rules.{word_at, digits_at, begins_later, end_at, first_rank_at, next_rank_at}
+use Rattle.gta_syntax.specs.Rules.{ranks_at, best_at, goal_at}
 use Rattle.gta_syntax.proofs.Again.{IsReadable, many_again}
 use Rattle.gta_syntax.proofs.CompleteSymbols.{word_again, later_again, digits_again, name_again, no_other_word}
 use Rattle.gta_syntax.proofs.CompleteSymbols.{name_shorter}
@@ -80,7 +82,8 @@ ranked_again (x ∷ next ∷ others) (listed d ms) several few off =
       ranks_again (listed d ms) off (omega arith),
     ) refl
 
-best_ranked_again : (k : ℕ) (keys : List RankPart) (ts : List Symbol) {b rest : List Symbol} → digits_at ts ≡ Some (k, b)
+best_ranked_again : (k : ℕ) (keys : List RankPart) (ts : List Symbol) {b rest : List Symbol}
+    → digits_at ts ≡ Some (k, b)
     → Listed IsFirstRank IsNextRank keys b rest → 2 ≤ length keys → length keys ≤ RANK_LIMIT
     → begins_later (codes "then") rest ≡ false → best_at ts ≡ Some (Ranked (Some k) keys, rest)
 unfolding best_at

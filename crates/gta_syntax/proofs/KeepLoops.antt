@@ -1,5 +1,6 @@
 -- Reading an expression piece by piece, as its loops and its recursion do.
-use Rattle.std.proofs.Common.{◌≡◌, ℕ, zero, suc, ◌+◌, ◌<◌, Bool, true, false, List, [], ◌∷◌, cond, length, drop, refl, arith}
+use Rattle.std.proofs.Common.{◌≡◌, ℕ, zero, suc, ◌+◌, ◌<◌, Bool, true, false, List, [], ◌∷◌, cond, length}
+use Rattle.std.proofs.Common.{drop, refl, arith}
 use Rattle.std.specs.Prelude.{Some, None, codes, is_some}
 use Rattle.gta_text.specs.declared.token.Token.{Token}
 use Rattle.gta_text.specs.Names.{is_name_text}
@@ -24,7 +25,8 @@ name_here : (t : Symbol) (ts : List Symbol)
     → names_among (t ∷ ts) ≡ one_if (begins_name (t ∷ ts)) + names_among ts
 unfolding name_at
 name_here (Word x) ts = elim (is_name_text x) as
-    (λ b. one_if b + names_among ts ≡ one_if (is_some {T = List ℕ × List Symbol} (cond b (Some (x, ts)) None)) + names_among ts)
+    (λ b. one_if b + names_among ts
+    ≡ one_if (is_some {T = List ℕ × List Symbol} (cond b (Some (x, ts)) None)) + names_among ts)
     [ true ↦ refl | false ↦ refl ]
 name_here (Later x) ts = onto_none (names_among ts)
 name_here (Digits n) ts = onto_none (names_among ts)
@@ -52,7 +54,8 @@ pub conj_start : (lit : Reading) (ts : List Symbol) {rest : List Symbol} {x : Ex
 unfolding conj_with
 conj_start lit ts n first long = record { joined = rw (first, long) refl }
 
-pub expr_start : (lit : Reading) (ts : List Symbol) {rest : List Symbol} {x : Expr} (n : ℕ) → conj_with lit ts ≡ Some (x, rest)
+pub expr_start : (lit : Reading) (ts : List Symbol) {rest : List Symbol} {x : Expr} (n : ℕ)
+    → conj_with lit ts ≡ Some (x, rest)
     → length rest ≡ n
     → GroupedSoFar any_of (begins_later (codes "or")) (or_conj_with lit) n x rest (expr_with lit ts)
 unfolding expr_with

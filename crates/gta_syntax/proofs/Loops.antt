@@ -106,7 +106,8 @@ module _ {A : Type 0} {group : A → List A → A} {join : A → A → A} (group
       → (after : List Symbol) → read ts ≡ Some (y, after) → GroupedSoFar group begins read m (join x y) after whole
   unfolding many
   grouped_item {n = n} {x = x} {ts = ts} so_far on m more y after item =
-      let one : grouped_with group x (many begins read n ts) ≡ grouped_with group (join x y) (many begins read m after) =
+      let one : grouped_with group x (many begins read n ts)
+      ≡ grouped_with group (join x y) (many begins read m after) =
       rw (more, on, item) (grouped_next grouping x y (many begins read m after)) in
       record { joined = sym one ∙ so_far.joined }
 

@@ -12,12 +12,14 @@ use Rattle.gta_syntax.specs.Rules.{part_at}
 use Rattle.gta_spec.specs.SpecText.{has_past}
 use Rattle.gta_syntax.specs.Refusals.{first_past, the_part, with_part, parts_from, fault_in}
 
-pub past_here : (version : ℕ) (source : List ℕ) (line : Numbered) (lines : List Numbered) → has_past version source line.tokens ≡ true
+pub past_here : (version : ℕ) (source : List ℕ) (line : Numbered) (lines : List Numbered)
+    → has_past version source line.tokens ≡ true
     → first_past version source (line ∷ lines) ≡ Some line.number
 unfolding first_past
 past_here version source line lines on = rw on refl
 
-pub past_later : (version : ℕ) (source : List ℕ) (line : Numbered) (lines : List Numbered) → has_past version source line.tokens ≡ false
+pub past_later : (version : ℕ) (source : List ℕ) (line : Numbered) (lines : List Numbered)
+    → has_past version source line.tokens ≡ false
     → first_past version source (line ∷ lines) ≡ first_past version source lines
 unfolding first_past
 past_later version source line lines off = rw off refl
@@ -44,7 +46,8 @@ regroup : (front : List PartTree) (part : PartTree) (parts : Result (List PartTr
 regroup front part (Ok parts) = simp append_assoc
 regroup front part (Err fault) = refl
 
-pub parts_at_start : (version : ℕ) (source : List ℕ) (lines : List Numbered) → PartsSoFar version source [] lines (parts_from version source lines)
+pub parts_at_start : (version : ℕ) (source : List ℕ) (lines : List Numbered)
+    → PartsSoFar version source [] lines (parts_from version source lines)
 parts_at_start version source lines = record { joined = no_front (parts_from version source lines) }
 
 pub parts_at_end : {version : ℕ} {source : List ℕ} {front : List PartTree} {whole : Result (List PartTree) SpecFault}

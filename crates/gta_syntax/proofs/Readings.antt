@@ -13,7 +13,8 @@ use Rattle.gta_spec.specs.Grammar.{IsPart}
 use Rattle.gta_syntax.specs.Rules.{part_at}
 use Rattle.gta_spec.specs.SpecText.{version_in, has_past, AreParts, none, some, SpecText}
 use Rattle.gta_syntax.specs.Refusals.{ReadTree, fault_in, first_past, parts_from, read_tree, spec_of, the_part}
-use Rattle.gta_syntax.specs.Refusals.{with_lines, with_numbers, with_part, with_parts, with_rows, with_text, with_version}
+use Rattle.gta_syntax.specs.Refusals.{with_lines, with_numbers, with_part, with_parts, with_rows}
+use Rattle.gta_syntax.specs.Refusals.{with_text, with_version}
 use Rattle.gta_syntax.specs.Refused.{IsFirstOutside, IsFirstPast, IsRefused}
 use Rattle.gta_syntax.specs.ByGrammar.{GivesTexts, GivesRefusals}
 use Rattle.gta_spec.specs.WellFormed.{IsWellFormed}
@@ -24,13 +25,15 @@ use Rattle.gta_syntax.proofs.PartLoops.{past_here, past_later}
 
 -- parts
 
-pub parts_again : {version : ℕ} {source : List ℕ} {lines : List Numbered} {parts : List PartTree} → AreParts version source lines parts
+pub parts_again : {version : ℕ} {source : List ℕ} {lines : List Numbered} {parts : List PartTree}
+    → AreParts version source lines parts
     → parts_from version source lines ≡ Ok parts
 unfolding parts_from
 parts_again none = refl
 parts_again (some d ds) = rw (part_again d, parts_again ds) refl
 
-not_read : (version : ℕ) (source : List ℕ) (line : Numbered) → ((kind : KindTree) → IsPart version kind (symbols version source line.tokens) → ⊥)
+not_read : (version : ℕ) (source : List ℕ) (line : Numbered)
+    → ((kind : KindTree) → IsPart version kind (symbols version source line.tokens) → ⊥)
     → part_at version (symbols version source line.tokens) ≡ None
 not_read version source line off = elim (part_at version (symbols version source line.tokens)) as
     (λ read. part_at version (symbols version source line.tokens) ≡ read → read ≡ None) [
@@ -42,7 +45,8 @@ not_read version source line off = elim (part_at version (symbols version source
 outside_again : {version : ℕ} {source : List ℕ} {lines : List Numbered} {n : ℕ} → IsFirstOutside version source lines n
     → parts_from version source lines ≡ Err (Grammar n)
 unfolding parts_from
-outside_again {version = version} {source = source} (IsFirstOutside.here {line = line} off) = rw (not_read version source line off) refl
+outside_again {version = version} {source = source} (IsFirstOutside.here {line = line} off) = rw
+    (not_read version source line off) refl
 outside_again (IsFirstOutside.later d more) = rw (part_again d, outside_again more) refl
 
 -- what the parts of some lines are, by what reading them gives
@@ -76,10 +80,12 @@ reads_line version source line lines None is rest ds = IsFirstOutside.here
 reads_line version source line lines (Some kind) is rest ds = reads_more version source line lines kind
     ((part_takes version (symbols version source line.tokens)).holds kind is) rest ds
 
-reads : (version : ℕ) (source : List ℕ) (lines : List Numbered) → Reads version source lines (parts_from version source lines)
+reads : (version : ℕ) (source : List ℕ) (lines : List Numbered)
+    → Reads version source lines (parts_from version source lines)
 unfolding parts_from
 reads version source [] = none
-reads version source (line ∷ lines) = reads_line version source line lines (part_at version (symbols version source line.tokens)) refl
+reads version source (line ∷ lines) = reads_line version source line lines
+    (part_at version (symbols version source line.tokens)) refl
     (parts_from version source lines) (reads version source lines)
 
 -- numbers
@@ -103,12 +109,14 @@ abbrev Past : ℕ → List ℕ → List Numbered → Option ℕ → Type 0
 Past version source lines None = list_any (λ line. has_past version source line.tokens) lines ≡ false
 Past version source lines (Some n) = IsFirstPast version source lines n
 
-past_line : (version : ℕ) (source : List ℕ) (line : Numbered) (lines : List Numbered) → has_past version source line.tokens ≡ false
+past_line : (version : ℕ) (source : List ℕ) (line : Numbered) (lines : List Numbered)
+    → has_past version source line.tokens ≡ false
     → (rest : Option ℕ) → Past version source lines rest → Past version source (line ∷ lines) rest
 past_line version source line lines off None p = rw off p
 past_line version source line lines off (Some n) p = IsFirstPast.later off p
 
-past : (version : ℕ) (source : List ℕ) (lines : List Numbered) → Past version source lines (first_past version source lines)
+past : (version : ℕ) (source : List ℕ) (lines : List Numbered)
+    → Past version source lines (first_past version source lines)
 unfolding first_past
 past version source [] = refl
 past version source (line ∷ lines) = elim (has_past version source line.tokens) as

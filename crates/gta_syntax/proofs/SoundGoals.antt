@@ -5,7 +5,8 @@ use Rattle.std.proofs.lemmas.Bool.Decides.{nat_tests}
 use Rattle.gta_spec.specs.declared.parts.RankPart.{RankPart}
 use Rattle.gta_spec.specs.declared.limits.TheConstants.{RANK_LIMIT}
 use Rattle.gta_spec.specs.Symbols.{Symbol}
-use Rattle.gta_spec.specs.Grammar.{IsWord, IsDigits, IsEnd, IsFirstRank, IsNextRank, IsGoal, Listed, listed, none, behind}
+use Rattle.gta_spec.specs.Grammar.{IsWord, IsDigits, IsEnd, IsFirstRank, IsNextRank, IsGoal}
+use Rattle.gta_spec.specs.Grammar.{Listed, listed, none, behind}
 use Rattle.gta_syntax.specs.Rules.{end_at, first_rank_at, next_rank_at, ranks_at, goal_of, best_of, best_at, goal_at}
 use Rattle.gta_syntax.proofs.Each.{Each, done, and_then, either, then_is, many_takes}
 use Rattle.gta_syntax.proofs.SoundSymbols.{when, word_takes, later_takes, digits_takes, name_takes}

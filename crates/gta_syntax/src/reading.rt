@@ -128,7 +128,8 @@ fn parts_of(alloc: Global, source: Source<'_>, lines: &[Line]) -> Result<Vec<Par
 
 fn part_of(alloc: Global, source: Source<'_>, line: &Line) -> Result<Part, SpecFault>
     ensures { Tells fault_in part_tree
-        (the_part line.now.number (part_at source.entry.version (symbols_in source.entry line.now.tokens.items))) result }
+        (the_part line.now.number
+        (part_at source.entry.version (symbols_in source.entry line.now.tokens.items))) result }
 {
     let number = line.number;
     match part_at(alloc, source, &line.tokens) {

@@ -12,7 +12,7 @@ use crate::source::{Source, is_later};
 use gta_text::{NUMBER_BOUND, Name, Token, TokenKind, digits_value, is_name};
 use std::alloc::Global;
 
-/// What follows the word, where the tokens begin with it, and the version doesn't reserve it newly.
+/// What follows the word, where the tokens begin with it. Words that version 2 reserves are for `later`.
 #[tactic(auto, unfolding(crate::specs::Rules::word_at))]
 pub(crate) fn word<'t>(source: Source<'_>, word: &[u8], tokens: &'t [Token]) -> Option<&'t [Token]>
     ensures { option_map (λ rest. symbols_in source.entry rest.now) result
@@ -26,7 +26,7 @@ pub(crate) fn word<'t>(source: Source<'_>, word: &[u8], tokens: &'t [Token]) -> 
     }
 }
 
-/// What follows the word, where the tokens begin with it, and the version reserves it newly.
+/// What follows the word, where the tokens begin with it, the version reserves it, and version 1 doesn't.
 #[tactic(auto, unfolding(crate::specs::Rules::later_at))]
 pub(crate) fn later<'t>(source: Source<'_>, word: &[u8], tokens: &'t [Token]) -> Option<&'t [Token]>
     ensures { option_map (λ rest. symbols_in source.entry rest.now) result

@@ -6,4 +6,5 @@ use Rattle.gta_syntax.proofs.rules.more_atoms.Given as goal
 
 abbrev pub invariant-loop : goal.invariant-loop
 invariant-loop l = SoFar (begins_word (codes "and")) and_at (length l.tokens - l.counter) (l.atoms.items)
-    (symbols_in l.source l.rest) (many (begins_word (codes "and")) and_at (length l.tokens) (symbols_in l.source l.tokens))
+    (symbols_in l.source l.rest)
+    (many (begins_word (codes "and")) and_at (length l.tokens) (symbols_in l.source l.tokens))
