@@ -1,6 +1,7 @@
 -- The limits that every checked specification keeps: its numbers are declared, and its lists and numbers are not too
 -- large.
-use Rattle.std.specs.Prelude.{◌≡◌, ℕ, ◌+◌, ◌<◌, ◌≤◌, ◌↔◌, ℤ, pos, ◌≤ℤ◌, nat_abs, true, List, length, Option, Some, None, All}
+use Rattle.std.specs.Prelude.{◌≡◌, ℕ, ◌+◌, ◌<◌, ◌≤◌, ◌↔◌, ℤ, pos, ◌≤ℤ◌, nat_abs, true, List, length, Option, Some}
+use Rattle.std.specs.Prelude.{None, All}
 use Rattle.gta_text.specs.declared.numbers.TheConstants.{NUMBER_BOUND}
 use Rattle.shape_gen.specs.declared.shape.Shape.TheVariants.{Assign}
 use Rattle.gta_spec.specs.declared.limits.TheConstants.{ATOM_LIMIT, BOUND_LIMIT, CASE_LIMIT, COLUMN_LIMIT, FACTOR_LIMIT}

@@ -217,11 +217,26 @@ fn the_most_bytes(rt: HostRuntime) -> Result<(), Fail> {
     let second: &[u8] = b"gta 2\ncolumns v\ngenerate sublists\naggregate max v\nrows\nv\n7\n";
     let cases: [(&[u8], u32, &[u8], &[u8]); 6] = [
         (first, 16_777_216, b"answer 7\n", b""),
-        (first, 16_777_217, b"", b"refused 45: input past 16777216 bytes\n"),
-        (first, 67_108_865, b"", b"refused 45: input past 67108864 bytes\n"),
+        (
+            first,
+            16_777_217,
+            b"",
+            b"refused 45: input past 16777216 bytes\n",
+        ),
+        (
+            first,
+            67_108_865,
+            b"",
+            b"refused 45: input past 67108864 bytes\n",
+        ),
         (second, 16_777_217, b"answer 7\n", b""),
         (second, 67_108_864, b"answer 7\n", b""),
-        (second, 67_108_865, b"", b"refused 45: input past 67108864 bytes\n"),
+        (
+            second,
+            67_108_865,
+            b"",
+            b"refused 45: input past 67108864 bytes\n",
+        ),
     ];
     for (job, count, out, err) in cases {
         let mut input = Vec::with_capacity(rt.alloc(), count as usize)?;

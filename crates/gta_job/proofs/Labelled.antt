@@ -1,12 +1,12 @@
 -- The marks of the best list have labels that are declared.
-use Rattle.std.proofs.Common.{◌≡◌, ℕ, zero, suc, ◌<◌, Bool, true, false, List, [], ◌∷◌, map, length, All, ℤ, cond}
+use Rattle.std.proofs.Common.{◌≡◌, ℕ, suc, ◌<◌, Bool, true, false, List, [], ◌∷◌, map, length, All, ℤ}
 use Rattle.std.proofs.Common.{refl, arith}
 use Rattle.std.specs.Ordering.{is_gt}
 use Rattle.std.specs.declared.cmp.Ordering.{Ordering}
 use Rattle.std.proofs.lemmas.List.Elements.{All-nil, All-cons, All-filter, All-map, All-take, All-weaker}
 use Rattle.shape_gen.specs.declared.mark.Mark.{Mark}
 use Rattle.witness_order.specs.Before.{before}
-use Rattle.witness_order.specs.Ranked.{placed, ranked, first_of}
+use Rattle.witness_order.specs.Ranked.{placed, ranked}
 use Rattle.best_k.specs.declared.entry.Entry.{Entry}
 use Rattle.best_k.specs.Best.{entry_of}
 use Rattle.gta_checked.specs.PlainRows.{PlainRows}

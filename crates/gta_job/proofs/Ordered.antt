@@ -1,8 +1,6 @@
 -- What follows the steps of an outcome, where they give a value, and where they end with a refusal.
-use Rattle.std.proofs.Common.{◌≡◌, ℕ, ◌∙◌, ◌≤◌, nat_lt, false, List, length, drop, Result, Ok, refl, sym, ap, subst}
-use Rattle.std.proofs.Common.{arith}
-use Rattle.std.proofs.lemmas.Bool.Decides.{nat_tests}
-use Rattle.outcome_kit.specs.Outcome.{and_then, unless, Carries}
+use Rattle.std.proofs.Common.{◌≡◌, ℕ, ◌∙◌, List, drop, Result, Ok, None, refl, sym, ap, subst}
+use Rattle.outcome_kit.specs.Outcome.{and_then, Carries}
 use Rattle.outcome_kit.proofs.Outcomes.{and_then-Carries}
 use Rattle.gta_checked.specs.PlainRows.{PlainRows}
 use Rattle.gta_checked.specs.Plain.{PlainChecked}
@@ -20,10 +18,8 @@ use Rattle.gta_rows.specs.declared.fault.RowsFault.TheVariants as table
 use Rattle.gta_rows.specs.Table as rows
 use Rattle.report_text.specs.declared.refusal.Refusal.{Refusal}
 use Rattle.gta_job.specs.declared.job.JobEnd.{JobEnd}
-use Rattle.gta_job.specs.declared.job.TheConstants.{INPUT_LIMIT}
 use Rattle.gta_job.specs.Ends.{Ends, Tells, end_of_checking, end_of_reading, end_of_table, refusal_in, told_by}
 use Rattle.gta_job.specs.Outcome.{built_specification, input_refusal, of_rows, specification, table_rows}
-use Rattle.gta_job.specs.Outcome.{unbuilt_refusal}
 
 module _ {S T : Type 0} where
   -- a step that ends with a refusal ends all

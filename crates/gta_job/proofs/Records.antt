@@ -1,16 +1,14 @@
 -- The rows of a table that has no fault.
-use Rattle.std.proofs.Common.{◌≡◌, ℕ, ◌+◌, ◌-◌, ◌≤◌, ◌<◌, ℤ, nat_lt, if◌then◌else◌, ◌==◌, Bool, true, false, List, [], ◌∷◌, length, Option}
+use Rattle.std.proofs.Common.{◌≡◌, ℕ, ◌+◌, ◌≤◌, nat_lt, if◌then◌else◌, ◌==◌, Bool, true, false, List, [], ◌∷◌, length}
+use Rattle.std.proofs.Common.{Option}
 use Rattle.std.proofs.Common.{Some, None}
-use Rattle.std.proofs.Common.{refl, sym, ap, ◌∙◌, subst, arith}
+use Rattle.std.proofs.Common.{refl, arith}
 use Rattle.std.specs.Option.{option_or}
 use Rattle.gta_spec.specs.declared.limits.TheConstants.{FIRST_ROW_LIMIT, ROW_LIMIT}
 use Rattle.gta_spec.specs.Versions.{row_limit}
 use Rattle.gta_spec.specs.declared.parts.ColumnItem.{ColumnItem}
 use Rattle.gta_checked.specs.declared.rows.Rows.{Rows}
-use Rattle.gta_checked.specs.PlainRows.{PlainRows, plain_rows}
-use Rattle.gta_checked.specs.Plain.{PlainChecked}
 use Rattle.gta_rows.specs.Fields.{Record}
-use Rattle.gta_rows.specs.declared.fault.RowsFault.{RowsFault}
 use Rattle.gta_rows.specs.declared.fault.RowsFault.TheVariants.{TooMany}
 use Rattle.gta_rows.specs.Table.{IsTableOf, fault_behind, first_bad_cell, missing, no_cell, places}
 use Rattle.gta_rows.specs.Table.{records_fault, table_fault, table_records, too_many, twice, wrong_length}
@@ -39,11 +37,13 @@ unfolding records_fault fault_behind
 few-in version items [] none = omega arith
 few-in version items (header ∷ records) none =
     let behind = or-second (twice header items) (fault_behind version header items records)
-    (or-second (missing header items) (option_or (twice header items) (fault_behind version header items records)) none) in
+    (or-second (missing header items)
+    (option_or (twice header items) (fault_behind version header items records)) none) in
     let few = few-if_not_many version (length records)
     (or-second (no_cell items (first_bad_cell (places header items) records)) (too_many version (length records))
     (or-second (wrong_length (length header) records)
-    (option_or (no_cell items (first_bad_cell (places header items) records)) (too_many version (length records))) behind)) in
+    (option_or (no_cell items (first_bad_cell (places header items) records)) (too_many version (length records)))
+    behind)) in
     omega (arith, few)
 
 pub table-few : (version : ℕ) (items : List ColumnItem) (bytes : List ℕ) (rows : Rows) → IsTableOf items bytes rows

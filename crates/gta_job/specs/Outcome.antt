@@ -1,5 +1,5 @@
 -- What a command comes to on bytes: the text that it prints, or the first refusal, in steps that stop at the first.
-use Rattle.std.specs.Prelude.{ℕ, Bool, false, not, ◌&&◌, ◌==◌, List, [], ◌++◌, length, drop, nat_lt}
+use Rattle.std.specs.Prelude.{ℕ, Bool, false, not, ◌&&◌, ◌==◌, List, ◌++◌, length, drop, nat_lt}
 use Rattle.std.specs.Prelude.{if◌then◌else◌, slice_get}
 use Rattle.std.specs.Prelude.{Option, Some, None, option_map, Result, Ok}
 use Rattle.outcome_kit.specs.Outcome.{and_then, unless}

@@ -29,7 +29,8 @@ pub under_header : (version : ℕ) (items : List ColumnItem) (header : Record) (
     → Stops (option_or (missing header items) (twice header items)) fault
     → Stops (records_fault version items (header ∷ records)) fault
 unfolding records_fault
-under_header version items header records fault = moved _ _ fault (λ e is. by (missing header items) (twice header items) is)
+under_header version items header records fault = moved _ _ fault
+    (λ e is. by (missing header items) (twice header items) is)
   where
     by : {e : RowsFault} (o p : Option RowsFault) → option_or o p ≡ Some e
         → option_or o (option_or p (fault_behind version header items records)) ≡ Some e

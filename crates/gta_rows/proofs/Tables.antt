@@ -16,5 +16,7 @@ module _ (items : List ColumnItem) (bytes : List ℕ) (rows : Rows) (table : IsT
       ∙ ap (λ w. of (length (table_records bytes) - 1) w rows.cells.items) table.columns
       ∙ ap (of (length (table_records bytes) - 1) (length items)) table.cells
 
-  pub table-tells : (version : ℕ) → table_fault version items bytes ≡ None → table_outcome version items bytes ≡ Ok (plain_rows rows)
-  table-tells version none = ap (λ (o : Option RowsFault). unless o (Ok (rows_of items bytes))) none ∙ ap Ok (sym the_rows)
+  pub table-tells : (version : ℕ) → table_fault version items bytes ≡ None → table_outcome version items bytes ≡ Ok
+      (plain_rows rows)
+  table-tells version none = ap (λ (o : Option RowsFault). unless o (Ok (rows_of items bytes))) none ∙ ap Ok
+      (sym the_rows)

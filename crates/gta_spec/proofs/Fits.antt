@@ -29,7 +29,8 @@ module _ {version : ℕ} where
       → SomeFit (FitsName version) xs × Good version rest
   names_fit d good = listed_fits (λ x ts a n g. name_fits n g) (λ x ts a n g. name_fits n g) d good
 
-  item_fits : {x : ColumnItem} {ts rest : List Symbol} → IsItem x ts rest → Good version ts → FitsItem version x × Good version rest
+  item_fits : {x : ColumnItem} {ts rest : List Symbol} → IsItem x ts rest → Good version ts → FitsItem version x
+      × Good version rest
   item_fits (IsItem.bare n) good = ((named n good, tt), after n.front good)
   item_fits (IsItem.headed n s t) good =
       ((named n good, text_good t (after s (after n.front good))), after t (after s (after n.front good)))
@@ -43,51 +44,62 @@ module _ {version : ℕ} where
   cmp_fits (IsCmp.at_least s) good = after s good
   cmp_fits (IsCmp.equal s) good = after s good
 
-  atom_fits : {x : AtomPart} {ts rest : List Symbol} → IsAtom x ts rest → Good version ts → FitsAtom version x × Good version rest
+  atom_fits : {x : AtomPart} {ts rest : List Symbol} → IsAtom x ts rest → Good version ts → FitsAtom version x
+      × Good version rest
   atom_fits (IsAtom.label w n) good = name_fits n (after w good)
   atom_fits (IsAtom.column n c z) good =
       let number = num_fits z (cmp_fits c (after n.front good)) in
       ((named n good, number.0), number.1)
 
-  and_fits : {x : AtomPart} {ts rest : List Symbol} → IsAnd x ts rest → Good version ts → FitsAtom version x × Good version rest
+  and_fits : {x : AtomPart} {ts rest : List Symbol} → IsAnd x ts rest → Good version ts → FitsAtom version x
+      × Good version rest
   and_fits (behind w d) good = atom_fits d (after w good)
 
-  if_fits : {xs : List AtomPart} {ts rest : List Symbol} → IsIf xs ts rest → Good version ts → EachFits (FitsAtom version) xs × Good version rest
+  if_fits : {xs : List AtomPart} {ts rest : List Symbol} → IsIf xs ts rest → Good version ts → EachFits
+      (FitsAtom version) xs × Good version rest
   if_fits IsIf.always good = (tt, good)
   if_fits (IsIf.given w c) good =
       let atoms = listed_fits (λ x ts a d g. atom_fits d g) (λ x ts a d g. and_fits d g) c (after w good) in
       (atoms.0.1, atoms.1)
 
-  term_fits : {m : Bool} {x : TermPart} {ts rest : List Symbol} → IsTerm m x ts rest → Good version ts → FitsTerm version x × Good version rest
+  term_fits : {m : Bool} {x : TermPart} {ts rest : List Symbol} → IsTerm m x ts rest → Good version ts
+      → FitsTerm version x × Good version rest
   term_fits (IsTerm.constant d) good = (digits_good d good, after d good)
   term_fits (IsTerm.column n) good = name_fits n good
   term_fits (IsTerm.multiple d s n) good =
       ((digits_good d good, named n (after s (after d good))), after n.front (after s (after d good)))
 
-  first_term_fits : {x : TermPart} {ts rest : List Symbol} → IsFirstTerm x ts rest → Good version ts → FitsTerm version x × Good version rest
+  first_term_fits : {x : TermPart} {ts rest : List Symbol} → IsFirstTerm x ts rest → Good version ts
+      → FitsTerm version x × Good version rest
   first_term_fits (IsFirstTerm.plain d) good = term_fits d good
   first_term_fits (IsFirstTerm.minus s d) good = term_fits d (after s good)
 
-  next_term_fits : {x : TermPart} {ts rest : List Symbol} → IsNextTerm x ts rest → Good version ts → FitsTerm version x × Good version rest
+  next_term_fits : {x : TermPart} {ts rest : List Symbol} → IsNextTerm x ts rest → Good version ts
+      → FitsTerm version x × Good version rest
   next_term_fits (IsNextTerm.plus s d) good = term_fits d (after s good)
   next_term_fits (IsNextTerm.minus s d) good = term_fits d (after s good)
 
-  case_fits : {x : CaseTree} {ts rest : List Symbol} → IsCase x ts rest → Good version ts → FitsCase version x × Good version rest
+  case_fits : {x : CaseTree} {ts rest : List Symbol} → IsCase x ts rest → Good version ts → FitsCase version x
+      × Good version rest
   case_fits (IsCase.case f i) good =
       let form = listed_fits (λ x ts a d g. first_term_fits d g) (λ x ts a d g. next_term_fits d g) f good in
       let cond = if_fits i form.1 in
       ((form.0, cond.0), cond.1)
 
-  next_case_fits : {x : CaseTree} {ts rest : List Symbol} → IsNextCase x ts rest → Good version ts → FitsCase version x × Good version rest
+  next_case_fits : {x : CaseTree} {ts rest : List Symbol} → IsNextCase x ts rest → Good version ts
+      → FitsCase version x × Good version rest
   next_case_fits (behind s d) good = case_fits d (after s good)
 
-  pick_fits : {x : PickTree} {ts rest : List Symbol} → IsPick x ts rest → Good version ts → FitsPick version x × Good version rest
+  pick_fits : {x : PickTree} {ts rest : List Symbol} → IsPick x ts rest → Good version ts → FitsPick version x
+      × Good version rest
   pick_fits (IsPick.pick n i) good = let cond = if_fits i (after n.front good) in ((named n good, cond.0), cond.1)
 
-  next_pick_fits : {x : PickTree} {ts rest : List Symbol} → IsNextPick x ts rest → Good version ts → FitsPick version x × Good version rest
+  next_pick_fits : {x : PickTree} {ts rest : List Symbol} → IsNextPick x ts rest → Good version ts
+      → FitsPick version x × Good version rest
   next_pick_fits (behind s d) good = pick_fits d (after s good)
 
-  check_fits : {x : Check} {ts rest : List Symbol} → IsCheck x ts rest → Good version ts → FitsCheck x × Good version rest
+  check_fits : {x : Check} {ts rest : List Symbol} → IsCheck x ts rest → Good version ts → FitsCheck x
+      × Good version rest
   check_fits (IsCheck.compare c z) good = num_fits z (cmp_fits c good)
   check_fits (IsCheck.modulo w d s e) good = (
     (digits_good d (after w good), digits_good e (after s (after d (after w good)))),
@@ -141,7 +153,8 @@ module _ {version : ℕ} where
   goal_fits (IsGoal.ranked r) good = (tt, ranks_fit r good)
   goal_fits (IsGoal.best_ranked w d r) good = (digits_good d (after w good), ranks_fit r (after d (after w good)))
 
-  pub line_fits : {x : KindTree} {ts rest : List Symbol} → IsLine version x ts rest → Good version ts → FitsKind version x
+  pub line_fits : {x : KindTree} {ts rest : List Symbol} → IsLine version x ts rest → Good version ts
+      → FitsKind version x
   line_fits (IsLine.columns w d) good =
       (listed_fits (λ x ts a i g. item_fits i g) (λ x ts a i g. item_fits i g) d (after w good)).0
   line_fits (IsLine.labels w d) good = (names_fit d (after w good)).0
@@ -150,10 +163,16 @@ module _ {version : ℕ} where
     (listed_fits (λ x ts a k g. case_fits k g) (λ x ts a k g. next_case_fits k g) d
         (after s (after n.front (after w good)))).0,
   )
-  line_fits (IsLine.table w n u m v d) good =
-      (named n (after w good), named m (after u (after n.front (after w good))), (names_fit d (after v (after m.front (after u (after n.front (after w good)))))).0)
-  line_fits (IsLine.times w n m s d) good =
-      (named n (after w good), named m (after n.front (after w good)), (names_fit d (after s (after m.front (after n.front (after w good))))).0)
+  line_fits (IsLine.table w n u m v d) good = (
+    named n (after w good),
+    named m (after u (after n.front (after w good))),
+    (names_fit d (after v (after m.front (after u (after n.front (after w good)))))).0,
+  )
+  line_fits (IsLine.times w n m s d) good = (
+    named n (after w good),
+    named m (after n.front (after w good)),
+    (names_fit d (after s (after m.front (after n.front (after w good))))).0,
+  )
   line_fits (IsLine.generate w d) good = tt
   line_fits (IsLine.test w d) good = test_fits d (after w good)
   line_fits (IsLine.named l w n s t) good =

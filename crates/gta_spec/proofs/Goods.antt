@@ -30,7 +30,8 @@ Fitting {A = A} version Fits Is = (x : A) (ts rest : List Symbol) → Is x ts re
     → Fits x × Good version rest
 
 module _ {version : ℕ} where
-  pub first_good : {t : Symbol} {ts rest : List Symbol} → ts ≡ t ∷ rest → Good version ts → GoodSymbol version t × AllGood version rest
+  pub first_good : {t : Symbol} {ts rest : List Symbol} → ts ≡ t ∷ rest → Good version ts → GoodSymbol version t
+      × AllGood version rest
   first_good {t = t} {rest = rest} e good = let P : List Symbol → Type 0 = AllGood version in subst P e good.holds
 
   pub after : {t : Symbol} {ts rest : List Symbol} → ts ≡ t ∷ rest → Good version ts → Good version rest
@@ -39,11 +40,14 @@ module _ {version : ℕ} where
   pub digits_good : {n : ℕ} {ts rest : List Symbol} → IsDigits n ts rest → Good version ts → n ≤ NUMBER_BOUND
   digits_good e good = (first_good e good).0
 
-  pub text_good : {x : List ℕ} {ts rest : List Symbol} → IsText x ts rest → Good version ts → list_all is_text_byte x ≡ true
+  pub text_good : {x : List ℕ} {ts rest : List Symbol} → IsText x ts rest → Good version ts
+      → list_all is_text_byte x ≡ true
   text_good e good = (first_good e good).0
 
-  pub many_fits : {A : Type 0} {Fits : A → Type 0} {Is : A → List Symbol → List Symbol → Type 0} → Fitting version Fits Is
-      → {xs : List A} {ts rest : List Symbol} → Many Is xs ts rest → Good version ts → EachFits Fits xs × Good version rest
+  pub many_fits : {A : Type 0} {Fits : A → Type 0} {Is : A → List Symbol → List Symbol → Type 0}
+      → Fitting version Fits Is
+      → {xs : List A} {ts rest : List Symbol} → Many Is xs ts rest → Good version ts → EachFits Fits xs
+      × Good version rest
   many_fits fits none good = (tt, good)
   many_fits fits (some {x = x} {ts = ts} {a = a} d ms) good =
       let first = fits x ts a d good in
@@ -52,7 +56,8 @@ module _ {version : ℕ} where
 
   pub listed_fits : {A : Type 0} {Fits : A → Type 0} {First Next : A → List Symbol → List Symbol → Type 0}
       → Fitting version Fits First → Fitting version Fits Next
-      → {xs : List A} {ts rest : List Symbol} → Listed First Next xs ts rest → Good version ts → SomeFit Fits xs × Good version rest
+      → {xs : List A} {ts rest : List Symbol} → Listed First Next xs ts rest → Good version ts → SomeFit Fits xs
+      × Good version rest
   listed_fits fits nexts (listed {x = x} {ts = ts} {a = a} d ms) good =
       let first = fits x ts a d good in
       let others = many_fits nexts ms first.1 in

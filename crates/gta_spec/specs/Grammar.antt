@@ -259,7 +259,8 @@ pub data IsExpr (IsLit : Expr → List Symbol → List Symbol → Type 0) : Expr
       → IsExpr IsLit (any_of x xs) ts rest
 
 -- "not" lit | NAME | "(" expr ")", where the literals within are these
-pub data IsLitOver (IsInner : Expr → List Symbol → List Symbol → Type 0) : Expr → List Symbol → List Symbol → Type 0 where
+pub data IsLitOver (IsInner : Expr → List Symbol → List Symbol → Type 0) : Expr → List Symbol → List Symbol
+    → Type 0 where
   test : {x : List ℕ} {ts rest : List Symbol} → IsName x ts rest → IsLitOver IsInner (keeps.Test x) ts rest
   not : {x : Expr} {ts a rest : List Symbol} → IsLater (codes "not") ts a → IsInner x a rest
       → IsLitOver IsInner (keeps.Not x) ts rest

@@ -22,14 +22,38 @@ fn two_tests(alloc: Global, lines: &[u8], cells: &[u8]) -> Result<Vec<u8>, Fail>
 fn what_is_kept(rt: HostRuntime) -> Result<(), Fail> {
     let cases: [(&[u8], &[u8], &[u8]); 12] = [
         (b"keep few or big\naggregate count\n", b"answer 6\n", b""),
-        (b"keep few and not big\naggregate count\n", b"answer 4\n", b""),
-        (b"keep not (few or big)\naggregate count\n", b"answer 2\n", b""),
+        (
+            b"keep few and not big\naggregate count\n",
+            b"answer 4\n",
+            b"",
+        ),
+        (
+            b"keep not (few or big)\naggregate count\n",
+            b"answer 2\n",
+            b"",
+        ),
         (b"aggregate count\n", b"answer 0\n", b""),
         (b"keep not not few\naggregate max v\n", b"answer 3\n", b""),
-        (b"keep few and big or big and not few\naggregate min v\n", b"answer 5\n", b""),
-        (b"keep few\naggregate best 1 max v\n", b"answer 1\n1 3 3\n", b""),
-        (b"test length mod 2 = 0\nkeep big\naggregate count\n", b"answer 1\n", b""),
-        (b"keep few and not few\naggregate any\n", b"answer no\n", b""),
+        (
+            b"keep few and big or big and not few\naggregate min v\n",
+            b"answer 5\n",
+            b"",
+        ),
+        (
+            b"keep few\naggregate best 1 max v\n",
+            b"answer 1\n1 3 3\n",
+            b"",
+        ),
+        (
+            b"test length mod 2 = 0\nkeep big\naggregate count\n",
+            b"answer 1\n",
+            b"",
+        ),
+        (
+            b"keep few and not few\naggregate any\n",
+            b"answer no\n",
+            b"",
+        ),
         (
             b"keep few or huge\naggregate count\n",
             b"",
@@ -56,7 +80,11 @@ fn what_is_kept(rt: HostRuntime) -> Result<(), Fail> {
 // What is listed, and where a test without bearing still counts for its keys and its negative values.
 #[test]
 fn what_has_no_bearing(rt: HostRuntime) -> Result<(), Fail> {
-    let list = two_tests(rt.alloc(), b"keep big and not few\naggregate count\n", b"1\n2\n3\n")?;
+    let list = two_tests(
+        rt.alloc(),
+        b"keep big and not few\naggregate count\n",
+        b"1\n2\n3\n",
+    )?;
     let ended = called(&rt, rt.alloc(), &["list"], list.as_slice(), SMOOTH)?;
     assert_eq!(rt; ended.out.as_slice(), b"kept 2\n2 3\n1 2 3\n".as_slice());
     let negative = two_tests(rt.alloc(), b"keep few\naggregate count\n", b"-1\n")?;
@@ -119,8 +147,14 @@ fn refusals_of_version_2(rt: HostRuntime) -> Result<(), Fail> {
             b"gta 2\naggregate max v then max v then min v then max v\nrows\n",
             b"refused 12: line 2: not in the grammar\n",
         ),
-        (b"gta 3\nrows\n", b"refused 11: line 1: not a known gta version\n"),
-        (b"gta 02\nrows\n", b"refused 11: line 1: not a known gta version\n"),
+        (
+            b"gta 3\nrows\n",
+            b"refused 11: line 1: not a known gta version\n",
+        ),
+        (
+            b"gta 02\nrows\n",
+            b"refused 11: line 1: not a known gta version\n",
+        ),
         (
             b"gta 2\ncolumns v\ngenerate sublists\ntest v = length <= 1\naggregate count\nrows\n",
             b"refused 21: line 4: name v declared twice\n",
@@ -164,12 +198,21 @@ fn expressions_are_shown_with_the_fewest_parentheses(rt: HostRuntime) -> Result<
         ("few and (big or few)", "few and (big or few)"),
         ("not (not (few))", "not not few"),
         ("not (few and big)", "not (few and big)"),
-        ("(not few) and not big or (few)", "not few and not big or few"),
+        (
+            "(not few) and not big or (few)",
+            "not few and not big or few",
+        ),
     ];
     for (written, shown) in cases {
         let mut out = String::new(rt.alloc());
-        write!(out, "gta 2\ncolumns v\ngenerate sublists\ntest few = length <= 1\n")?;
-        write!(out, "test big = sum v >= 5\nkeep {shown}\naggregate best 3 max v then min v\nrows\n")?;
+        write!(
+            out,
+            "gta 2\ncolumns v\ngenerate sublists\ntest few = length <= 1\n"
+        )?;
+        write!(
+            out,
+            "test big = sum v >= 5\nkeep {shown}\naggregate best 3 max v then min v\nrows\n"
+        )?;
         for text in [written, shown] {
             let mut lines = String::new(rt.alloc());
             write!(lines, "keep {text}\naggregate best 3 max v then min v\n")?;

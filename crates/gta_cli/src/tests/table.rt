@@ -126,9 +126,19 @@ fn headers_of_their_own(rt: HostRuntime) -> Result<(), Fail> {
 fn the_most_rows(rt: HostRuntime) -> Result<(), Fail> {
     let cases: [(&[u8], u32, &[u8], &[u8]); 4] = [
         (b"gta 1", 100_000, b"answer 100001\n", b""),
-        (b"gta 1", 100_001, b"", b"refused 36: more than 100000 rows\n"),
+        (
+            b"gta 1",
+            100_001,
+            b"",
+            b"refused 36: more than 100000 rows\n",
+        ),
         (b"gta 2", 400_000, b"answer 400001\n", b""),
-        (b"gta 2", 400_001, b"", b"refused 36: more than 400000 rows\n"),
+        (
+            b"gta 2",
+            400_001,
+            b"",
+            b"refused 36: more than 400000 rows\n",
+        ),
     ];
     for (version, count, out, err) in cases {
         let mut input = Vec::from_slice(rt.alloc(), version)?;

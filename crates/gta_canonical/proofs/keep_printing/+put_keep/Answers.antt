@@ -25,6 +25,7 @@ returns-in_ok-put_keep-in-Either-2 t c =
     rw (c.in-Either.is, c.deref-in-Either.ensures, c.deref-in-Either-2.ensures) refl in
     rw tree
     (either_written c.put_close-in-Either.result (place_of c.args.place) c.args.glued
-    c.encloses_either-enclosed.result left right c.args.out.now.items _ _ _ _ c.put_close-in-Either.new.out.items c.encloses_either-enclosed.ensures
+    c.encloses_either-enclosed.result left right c.args.out.now.items _ _ _ _ c.put_close-in-Either.new.out.items
+    c.encloses_either-enclosed.ensures
     c.in_ok-put_open-in-Either.ensures c.in_ok-put_keep-in-Either.ensures c.in_ok-put_spaced-in-Either.ensures
     c.in_ok-put_keep-in-Either-2.ensures c.put_close-in-Either.ensures)

@@ -1,5 +1,5 @@
 -- The job of a drill is one that its text holds.
-use Rattle.std.proofs.Common.{◌≡◌, ◌∙◌, List, ℕ, Vec, Global, subst}
+use Rattle.std.proofs.Common.{◌≡◌, ◌∙◌, ℕ, Vec, Global, subst}
 use Rattle.drill_texts.specs.Drills.{drill_text}
 use Rattle.gta_words.specs.declared.words.Command.TheVariants.{Run}
 use Rattle.gta_job.specs.Ends.{Tells}

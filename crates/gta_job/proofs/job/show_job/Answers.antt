@@ -1,5 +1,5 @@
 -- The canonical text of a specification, or its refusal.
-use Rattle.std.proofs.Common.{rules, ◌≡◌, ◌∙◌, List, ℕ, Ok, Result, ap}
+use Rattle.std.proofs.Common.{rules, ◌∙◌, List, ℕ, Ok, Result, ap}
 use Rattle.gta_canonical.specs.Canonical.{canonical}
 use Rattle.gta_syntax.specs.Refusals.{ReadTree}
 use Rattle.gta_words.specs.declared.words.Command.TheVariants.{Show}

@@ -1,5 +1,5 @@
 -- A list, or the refusal of the specification or of the table.
-use Rattle.std.proofs.Common.{rules, ◌≡◌, ◌∙◌, List, ℕ, Ok, drop, sym, subst, Vec, Global}
+use Rattle.std.proofs.Common.{rules, ◌≡◌, ℕ, Ok, drop, subst, Vec, Global}
 use Rattle.gta_checked.specs.PlainRows.{plain_rows}
 use Rattle.gta_syntax.specs.Refusals.{read_tree}
 use Rattle.gta_types.specs.ResolvedOf.{resolved_of}

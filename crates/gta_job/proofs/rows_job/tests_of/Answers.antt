@@ -1,7 +1,6 @@
 -- Rows without a negative value are refused for their tests' keys alone.
-use Rattle.std.proofs.Common.{rules}
 use Rattle.gta_checked.specs.PlainRows.{plain_rows}
-use Rattle.gta_job.proofs.Keys.{keys-few, keys-many, no-negative}
+use Rattle.gta_job.proofs.Keys.{keys-few, keys-many}
 use Rattle.gta_job.proofs.rows_job.tests_of.Goals as goal
 
 pub returns-in-Ok-clause-passes : goal.returns-in-Ok-clause-passes

@@ -1,17 +1,15 @@
 -- The specification that is read and checked, or the refusal of its text, or of its names, rules and tables.
-use Rattle.std.proofs.Common.{rules, ◌≤◌, length, arith}
-use Rattle.gta_spec.specs.Parts.{spec_tree}
+use Rattle.std.proofs.Common.{rules, ◌≡◌, None}
 use Rattle.gta_syntax.specs.Refusals.{read_tree}
 use Rattle.gta_types.specs.ResolvedOf.{resolved-is}
-use Rattle.gta_job.specs.declared.job.TheConstants.{INPUT_LIMIT}
 use Rattle.gta_job.specs.Ends.{Ends, end_of_checking, end_of_reading}
-use Rattle.gta_job.specs.Outcome.{specification}
+use Rattle.gta_job.specs.Outcome.{input_refusal, specification}
 use Rattle.gta_job.proofs.Ordered.{check-ends, read-ends, spec-told}
 use Rattle.gta_job.proofs.steps.checked_spec.Goals as goal
 
 pub returns-in_err-read-clause-tells : goal.returns-in_err-read-clause-tells
 returns-in_err-read-clause-tells c =
-    let few : length c.args.bytes.now ≤ INPUT_LIMIT = omega arith in
+    let few : input_refusal c.args.bytes.now ≡ None = c.in_ok-refuse_input.ensures.passes in
     let fault = c.in_err-read.field-0.0 in
     let ends : Ends (specification c.args.bytes.now) (end_of_reading fault) =
     read-ends c.args.bytes.now few fault c.in_err-read.ensures.tells in
@@ -19,7 +17,7 @@ returns-in_err-read-clause-tells c =
 
 pub returns-in_err-checked-clause-tells : goal.returns-in_err-checked-clause-tells
 returns-in_err-checked-clause-tells c =
-    let few : length c.args.bytes.now ≤ INPUT_LIMIT = omega arith in
+    let few : input_refusal c.args.bytes.now ≡ None = c.in_ok-refuse_input.ensures.passes in
     let fault = c.in_err-checked.field-0.0 in
     let ends : Ends (specification c.args.bytes.now) (end_of_checking fault) =
     check-ends c.args.bytes.now few (read_tree c.in_ok-read.read) fault c.in_ok-read.ensures.tells
@@ -28,7 +26,7 @@ returns-in_err-checked-clause-tells c =
 
 pub returns-clause-tells : goal.returns-clause-tells
 returns-clause-tells c =
-    let few : length c.args.bytes.now ≤ INPUT_LIMIT = omega arith in
+    let few : input_refusal c.args.bytes.now ≡ None = c.in_ok-refuse_input.ensures.passes in
     spec-told c.args.bytes.now few (read_tree c.in_ok-read.read) c.in_ok-checked.checked c.in_ok-read.ensures.tells
     c.in_ok-checked.ensures.tells
 

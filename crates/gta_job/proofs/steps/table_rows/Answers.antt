@@ -14,7 +14,9 @@ unfolding table_rows
 returns-in_err-read_rows-clause-tells c =
     let fault = c.in_err-read_rows.field-0.0 in
     let ends : Ends (table_rows c.args.checked.now c.args.table.now) (end_of_table fault) =
-    table-ends (table_outcome c.args.checked.now.version c.args.checked.now.columns c.args.table.now) fault c.in_err-read_rows.ensures.tells in
+    table-ends
+    (table_outcome c.args.checked.now.version c.args.checked.now.columns c.args.table.now) fault
+    c.in_err-read_rows.ensures.tells in
     search rules
 
 pub returns-clause-tells : goal.returns-clause-tells
@@ -26,6 +28,7 @@ returns-clause-few c =
     let items = c.args.checked.now.columns in
     let table = c.args.table.now in
     let rows = c.in_ok-read_rows.field-0 in
-    let told = unless-Ok (table_fault c.args.checked.now.version items table) (Ok (rows_of items table)) (plain_rows rows)
+    let told = unless-Ok (table_fault c.args.checked.now.version items table) (Ok (rows_of items table))
+    (plain_rows rows)
     c.in_ok-read_rows.ensures.tells in
     table-few c.args.checked.now.version items table rows c.in_ok-read_rows.ensures.table told.0

@@ -32,10 +32,12 @@ returns-in_err-rows-clause-tells c =
     let items : c.as_slice-items.result.now ≡ declared = c.as_slice-items.ensures.value ∙ c.columns.ensures.columns in
     let stops : Stops (table_fault c.args.checked.now.version declared bytes) fault =
     subst (λ (xs : List ColumnItem). Stops (table_fault c.args.checked.now.version xs bytes) fault) items
-    (subst (λ (rows : List Record). Stops (records_fault c.args.checked.now.version c.as_slice-items.result.now rows) fault) (sym whole)
+    (subst (λ (rows : List Record). Stops
+    (records_fault c.args.checked.now.version c.as_slice-items.result.now rows) fault) (sym whole)
     (rw c.version.ensures at c.in_err-rows.ensures.tells)) in
     let ends : Carries (table_outcome c.args.checked.now.version declared bytes) (fault_in fault) =
-    unless-Carries (table_fault c.args.checked.now.version declared bytes) (Ok (rows_of declared bytes)) (fault_in fault) stops in
+    unless-Carries (table_fault c.args.checked.now.version declared bytes) (Ok (rows_of declared bytes))
+    (fault_in fault) stops in
     search rules
 
 pub returns : goal.returns
