@@ -294,8 +294,8 @@ fn a_row_past_the_bound_is_heavy(rt: HostRuntime) -> Result<(), Fail> {
             number: 3,
         };
         let checked = spec_of(rt.alloc(), Test::Length { check }, goal)?;
-        assert_eq!(rt; first_heavy(&checked, &alone), of_one, "at {goal:?}");
-        assert_eq!(rt; first_heavy(&checked, &both), of_both, "at {goal:?}");
+        assert_eq!(rt; first_heavy(&checked, &alone), of_one, "at {of_both:?}");
+        assert_eq!(rt; first_heavy(&checked, &both), of_both, "at {of_one:?}");
     }
     Ok(())
 }

@@ -1,1 +1,2 @@
 pub mod LaneRows
+pub mod Named

@@ -92,6 +92,16 @@ fn spec_of(alloc: Global, tests: Vec<Test>) -> Result<Checked, AllocError>
     spec_with(alloc, Vec::new(alloc), tests)
 }
 
+/// No test has a name.
+#[tactic(auto, using(crate::proofs::Named::as_many))]
+fn unnamed(alloc: Global, tests: &[Test]) -> Result<Vec<bool>, AllocError>
+    ensures { IfOk result (λ named. length named.items ≡ length (map plain_test tests.now)) }
+{
+    let mut named = Vec::new(alloc);
+    named.resize(tests.len(), false)?;
+    Ok(named)
+}
+
 // A specification with these tables and tests.
 fn spec_with(alloc: Global, tables: Vec<Table>, tests: Vec<Test>) -> Result<Checked, AllocError>
     requires few_tables { length (map plain_named tables.items) ≤ 8 }
@@ -111,8 +121,7 @@ fn spec_with(alloc: Global, tables: Vec<Table>, tests: Vec<Test>) -> Result<Chec
     let mut measures = Vec::new(alloc);
     measures.push(plain(alloc)?)?;
     measures.push(turned(alloc)?)?;
-    let mut named = Vec::new(alloc);
-    named.resize(tests.len(), false)?;
+    let named = unnamed(alloc, tests.as_slice())?;
     Ok(Checked::of(
         1,
         columns,

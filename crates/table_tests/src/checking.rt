@@ -19,8 +19,8 @@ use std::test::Fail;
 
 /// Columns on line 2, a shape on line 3, a goal on line 4.
 fn spec(alloc: Global, column: &[u8], shape: Shape, weight: &[u8]) -> Result<Spec, AllocError>
-    requires column { FitsName column.now }
-    requires weight { FitsName weight.now }
+    requires column { FitsName 1 column.now }
+    requires weight { FitsName 1 weight.now }
     ensures { IfOk result (λ spec. IsWellFormed (spec_tree spec)) }
 {
     let mut items = Vec::new(alloc);
@@ -43,7 +43,7 @@ fn spec(alloc: Global, column: &[u8], shape: Shape, weight: &[u8]) -> Result<Spe
     Ok(Spec { version: 1, parts })
 }
 
-#[tactic(auto, unfolding(gta_text::specs::Names::is_reserved))]
+#[tactic(auto, unfolding(gta_text::specs::Names::is_reserved, gta_spec::specs::Versions::is_later))]
 #[test]
 fn first_faults(rt: HostRuntime) -> Result<(), Fail> {
     let alloc = rt.alloc();
@@ -104,9 +104,9 @@ const NO_LINE: Lines = Lines {
     times: [b"e:eab", b"a:abe", b"a:bea"],
 };
 
-#[tactic(auto, unfolding(gta_text::specs::Names::is_reserved))]
+#[tactic(auto, unfolding(gta_text::specs::Names::is_reserved, gta_spec::specs::Versions::is_later))]
 fn letter(alloc: Global, byte: u8) -> Result<Name, AllocError>
-    ensures { IfOk result FitsName }
+    ensures { IfOk result (FitsName 1) }
 {
     match byte {
         b'a' => Name::of(alloc, b"a"),
@@ -118,7 +118,7 @@ fn letter(alloc: Global, byte: u8) -> Result<Name, AllocError>
 }
 
 fn letters(alloc: Global, bytes: [u8; 3]) -> Result<Vec<Name>, AllocError>
-    ensures { IfOk result (λ names. SomeFit FitsName names.items) }
+    ensures { IfOk result (λ names. SomeFit (FitsName 1) names.items) }
 {
     let first = letter(alloc, bytes[0])?;
     let second = letter(alloc, bytes[1])?;
@@ -128,7 +128,7 @@ fn letters(alloc: Global, bytes: [u8; 3]) -> Result<Vec<Name>, AllocError>
 
 fn table(alloc: Global, line: u32, name: u8, lines: &Lines) -> Result<Part, AllocError>
     ensures line { IfOk result (λ part. part.line ≡ line) }
-    ensures fits { IfOk result (λ part. FitsKind (kind_tree part.kind)) }
+    ensures fits { IfOk result (λ part. FitsKind 1 (kind_tree part.kind)) }
 {
     let kind = PartKind::Table(TablePart {
         name: letter(alloc, name)?,
@@ -140,7 +140,7 @@ fn table(alloc: Global, line: u32, name: u8, lines: &Lines) -> Result<Part, Allo
 
 fn times(alloc: Global, line: u32, table: u8, row: &[u8; 5]) -> Result<Part, AllocError>
     ensures line { IfOk result (λ part. part.line ≡ line) }
-    ensures fits { IfOk result (λ part. FitsKind (kind_tree part.kind)) }
+    ensures fits { IfOk result (λ part. FitsKind 1 (kind_tree part.kind)) }
 {
     let kind = PartKind::Times(TimesPart {
         table: letter(alloc, table)?,
@@ -151,7 +151,7 @@ fn times(alloc: Global, line: u32, table: u8, row: &[u8; 5]) -> Result<Part, All
 }
 
 fn pick(alloc: Global, element: u8) -> Result<PickPart, AllocError>
-    ensures { IfOk result (λ pick. FitsPick (pick_tree pick)) }
+    ensures { IfOk result (λ pick. FitsPick 1 (pick_tree pick)) }
 {
     Ok(PickPart {
         element: letter(alloc, element)?,
@@ -162,7 +162,7 @@ fn pick(alloc: Global, element: u8) -> Result<PickPart, AllocError>
 /// A fold by the table u that picks b, and accepts e and a.
 fn fold(alloc: Global, line: u32) -> Result<Part, AllocError>
     ensures line { IfOk result (λ part. part.line ≡ line) }
-    ensures fits { IfOk result (λ part. FitsKind (kind_tree part.kind)) }
+    ensures fits { IfOk result (λ part. FitsKind 1 (kind_tree part.kind)) }
 {
     let picked = pick(alloc, b'b')?;
     let e = letter(alloc, b'e')?;
@@ -176,7 +176,7 @@ fn fold(alloc: Global, line: u32) -> Result<Part, AllocError>
 }
 
 /// Columns on line 2, a shape on line 3, the tables t and u, a fold by u, and a goal.
-#[tactic(auto, unfolding(gta_text::specs::Names::is_reserved))]
+#[tactic(auto, unfolding(gta_text::specs::Names::is_reserved, gta_spec::specs::Versions::is_later))]
 fn of_tables(alloc: Global, t: &Lines, u: &Lines) -> Result<Spec, AllocError>
     ensures { IfOk result (λ spec. IsWellFormed (spec_tree spec)) }
 {

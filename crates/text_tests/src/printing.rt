@@ -1,6 +1,6 @@
 //! Worked examples: specifications built by hand, and their texts.
-ghost use Rattle.std.specs.Prelude.{◌≡◌, IfOk, true};
-ghost use Rattle.gta_text.specs.Names.{is_name_text};
+ghost use Rattle.std.specs.Prelude.{IfOk};
+ghost use Rattle.gta_spec.specs.WellFormed.{FitsName};
 
 use gta_canonical::show_spec;
 use gta_spec::{
@@ -12,8 +12,10 @@ use shape_gen::Shape;
 use std::alloc::Global;
 use std::test::Fail;
 
+/// A name of version 1.
+#[tactic(auto, using(crate::proofs::Names::first_reserves_none))]
 fn name(alloc: Global, text: &[u8]) -> Result<Name, Fail>
-    ensures { IfOk result (λ name. is_name_text name ≡ true) }
+    ensures { IfOk result (FitsName 1) }
 {
     if !is_name(text) {
         return Err("it is a name".into());
