@@ -14,50 +14,51 @@ fn columns(alloc: Global) -> Result<PartKind, AllocError> {
     Ok(PartKind::Columns(items))
 }
 
-fn spec(alloc: Global, kinds: Vec<PartKind>) -> Result<Spec, AllocError> {
+/// What a line says, by a letter: columns, assignments, segments, and else a count.
+fn kind(alloc: Global, letter: u8) -> Result<PartKind, AllocError> {
+    match letter {
+        b'c' => columns(alloc),
+        b'a' => Ok(PartKind::Generate(Shape::Assign)),
+        b's' => Ok(PartKind::Generate(Shape::Segments)),
+        _ => Ok(PartKind::Aggregate(GoalPart::Count)),
+    }
+}
+
+/// A specification whose lines say this, from line 2 on.
+fn spec(alloc: Global, letters: &[u8]) -> Result<Spec, AllocError> {
     let mut parts = Vec::new(alloc);
     let mut line = 1;
-    for kind in kinds {
+    for letter in letters {
         line = if line < 100 { line + 1 } else { line };
+        let kind = kind(alloc, *letter)?;
         parts.push(Part { line, kind })?;
     }
     Ok(Spec { version: 1, parts })
 }
 
+// What the lines say, and the first rule that they break.
 #[test]
 fn first_rules_broken(rt: HostRuntime) -> Result<(), std::test::Fail> {
-    let alloc = rt.alloc();
-    let kinds = Vec::from_array(
-        alloc,
-        [columns(alloc)?, PartKind::Generate(Shape::Sublists)],
-    )?;
-    let missing = Some(RuleFault::Missing {
+    let missing = RuleFault::Missing {
         part: SinglePart::Aggregate,
-    });
-    assert_eq!(rt; rule_fault(&spec(alloc, kinds)?), missing);
-    let goal = PartKind::Aggregate(GoalPart::Count);
-    let kinds = Vec::from_array(
-        alloc,
-        [columns(alloc)?, goal, PartKind::Generate(Shape::Assign)],
-    )?;
-    let assign = Some(RuleFault::LabelsAssign {
+    };
+    let assign = RuleFault::LabelsAssign {
         line: 4,
         assign: true,
-    });
-    assert_eq!(rt; rule_fault(&spec(alloc, kinds)?), assign);
-    let goal = PartKind::Aggregate(GoalPart::Count);
-    let shape = PartKind::Generate(Shape::Segments);
-    let kinds = Vec::from_array(alloc, [columns(alloc)?, goal, columns(alloc)?, shape])?;
-    let second = Some(RuleFault::SecondPart {
+    };
+    let second = RuleFault::SecondPart {
         line: 4,
         part: SinglePart::Columns,
-    });
-    assert_eq!(rt; rule_fault(&spec(alloc, kinds)?), second);
-    let goal = PartKind::Aggregate(GoalPart::Count);
-    let kinds = Vec::from_array(
-        alloc,
-        [columns(alloc)?, goal, PartKind::Generate(Shape::Segments)],
-    )?;
-    assert_eq!(rt; rule_fault(&spec(alloc, kinds)?), None);
+    };
+    let cases: [(&[u8], Option<RuleFault>); 4] = [
+        (b"cs", Some(missing)),
+        (b"cga", Some(assign)),
+        (b"cgcs", Some(second)),
+        (b"cgs", None),
+    ];
+    for (letters, fault) in cases {
+        let spec = spec(rt.alloc(), letters)?;
+        assert_eq!(rt; rule_fault(&spec), fault, "at {letters:?}");
+    }
     Ok(())
 }
