@@ -167,9 +167,6 @@ module _ (a : PlainAuto) where
         subst (λ gs. n + 1 ≤ length gs) (sym extended)
         (let longer = fold_new-longer (extensions a (get_or fs n [])) fs in omega arith)
 
-    pub many-more : 64 < length hs → AreMany a
-    many-more many = discovered-AreMany (n + 1) (subst (λ gs. 64 < length gs) discovered-more many)
-
   pub IsNumbering-from : (fs : List (List ℕ)) (n : ℕ) → n ≡ length fs → fs ≡ discovered a n → IsClosedTo a n fs
       → IsNumbering a fs
   IsNumbering-from fs n whole so_far closed = record {

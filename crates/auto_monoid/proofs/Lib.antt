@@ -2,3 +2,4 @@ pub mod Places
 pub mod Words
 pub mod Found
 pub mod Products
+pub mod All

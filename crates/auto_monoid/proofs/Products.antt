@@ -1,7 +1,7 @@
 -- Lemmas on the table of products, over the numbering of an automaton's functions.
 use Rattle.std.proofs.Common.{◌≡◌, ℕ, zero, suc, ◌+◌, ◌*◌, ◌<◌, ◌≤◌, Bool, true, false, ◌||◌, List, [], ◌∷◌}
 use Rattle.std.proofs.Common.{◌++◌, length, get_or, take, map, inl, inr, refl, sym, ap, subst, ◌∙◌, All, None}
-use Rattle.std.proofs.Common.{Some, Ok, Err, append_assoc, arith}
+use Rattle.std.proofs.Common.{Ok, Err, append_assoc, arith}
 use Rattle.std.specs.List.{flat_map, IsDistinct, list_any}
 use Rattle.std.proofs.lemmas.Bool.{cases_lt, false≢true}
 use Rattle.std.proofs.lemmas.Cmp.{nat_list_eq_equiv}

@@ -1,8 +1,9 @@
 -- The order in which the functions of words are numbered: the identity first, and then each function in order is
 -- followed by each letter in order, and what is new gets the next number.
 use Rattle.std.specs.Prelude.{◌≡◌, ℕ, zero, suc, ◌<◌, List, [], ◌∷◌, ◌++◌, length, map, slice_index_or, nat_lt}
-use Rattle.std.specs.Prelude.{if◌then◌else◌}
+use Rattle.std.specs.Prelude.{Bool, if◌then◌else◌}
 use Rattle.std.specs.List.{fold, range_with_len}
+use Rattle.monoid_kit.specs.declared.table.TheConstants.{GREATEST_TABLE}
 use Rattle.auto_monoid.specs.Auto.{PlainAuto}
 use Rattle.auto_monoid.specs.Functions.{identity, followed_by, number_of}
 
@@ -20,6 +21,14 @@ abbrev pub discovered : PlainAuto → ℕ → List (List ℕ)
 discovered a zero = identity a ∷ []
 discovered a (suc n) =
     fold with_new (discovered a n) (extensions a (slice_index_or (discovered a n) n (identity a)))
+
+-- the functions of words in their order: all, where there are no more than 64, and else more than 64 of them
+unfoldable pub all_functions : PlainAuto → List (List ℕ)
+all_functions a = discovered a GREATEST_TABLE
+
+-- whether more than 64 functions are those of words
+unfoldable pub are_too_many : PlainAuto → Bool
+are_too_many a = nat_lt GREATEST_TABLE (length (all_functions a))
 
 -- all of the functions have been followed by each letter, and what that gives is among them
 pub record IsNumbering (a : PlainAuto) (functions : List (List ℕ)) : Type 0 where

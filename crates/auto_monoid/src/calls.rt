@@ -1,12 +1,12 @@
 //! The transition monoid of an automaton is made, and read.
 
-ghost use Rattle.std.specs.Prelude.{◌≡◌, ◌<◌, IfOk, IfErr, OnOk, length};
+ghost use Rattle.std.specs.Prelude.{◌≡◌, ◌<◌, IfOk, IfErr, OnOk, length, true, false};
 ghost use Rattle.monoid_kit.specs.TableOf.{plain_table};
 ghost use Rattle.monoid_kit.specs.declared.checks.TableFault.TheVariants as table_faults;
 ghost use Rattle.auto_monoid.specs.declared.auto.AutoFault.TheVariants.{TooMany, Memory};
 ghost use Rattle.auto_monoid.specs.Auto.{IsAuto};
 ghost use Rattle.auto_monoid.specs.AutoOf.{plain_auto};
-ghost use Rattle.auto_monoid.specs.Functions.{AreFew, AreMany};
+ghost use Rattle.auto_monoid.specs.Numbering.{are_too_many};
 ghost use Rattle.auto_monoid.specs.MonoidOf.{product_table, letter_element, state_after_element};
 ghost use Rattle.auto_monoid.specs.TransitionOf.{machine, functions};
 
@@ -18,12 +18,12 @@ use monoid_kit::{TableFault, TableMonoid, check_table};
 use std::alloc::Global;
 
 /// The transition monoid of the automaton. It takes memory for the functions, and for their table.
-/// Too many is told exactly where more than 64 different functions are those of words.
+/// Too many is told exactly where more than 64 different functions are those of words (`too_many_law`).
 pub fn transition_monoid(alloc: Global, auto: Auto) -> Result<AutoMonoid, AutoFault>
     requires auto { IsAuto (plain_auto auto) }
     ensures machine { IfOk result (λ monoid. machine monoid ≡ plain_auto auto) }
-    ensures few { OnOk result (AreFew (plain_auto auto)) }
-    ensures too_many { IfErr result (λ fault. fault ≡ TooMany → AreMany (plain_auto auto)) }
+    ensures few { OnOk result (are_too_many (plain_auto auto) ≡ false) }
+    ensures too_many { IfErr result (λ fault. fault ≡ TooMany → are_too_many (plain_auto auto) ≡ true) }
 {
     let functions = discover(alloc, &auto)?;
     let Ok(letters) = letters_of(alloc, &auto, &functions) else {

@@ -1,13 +1,13 @@
 //! The functions of words are found and numbered. Their order is in specs/Numbering.antt.
 
-ghost use Rattle.std.specs.Prelude.{◌≡◌, ◌<◌, ◌≤◌, All, [], IfOk, IfErr, OnOk, length, slice_index_or};
+ghost use Rattle.std.specs.Prelude.{◌≡◌, ◌<◌, ◌≤◌, All, [], IfOk, IfErr, OnOk, length, slice_index_or, true};
 ghost use Rattle.std.specs.List.{fold};
 ghost use Rattle.monoid_kit.specs.declared.table.TheConstants.{GREATEST_TABLE};
 ghost use Rattle.auto_monoid.specs.declared.auto.AutoFault.TheVariants.{TooMany};
 ghost use Rattle.auto_monoid.specs.Auto.{IsAuto};
 ghost use Rattle.auto_monoid.specs.AutoOf.{plain_auto};
-ghost use Rattle.auto_monoid.specs.Functions.{IsFunction, number_of, AreMany};
-ghost use Rattle.auto_monoid.specs.Numbering.{discovered, extensions, with_new, IsNumbering};
+ghost use Rattle.auto_monoid.specs.Functions.{IsFunction, number_of};
+ghost use Rattle.auto_monoid.specs.Numbering.{discovered, extensions, with_new, IsNumbering, are_too_many};
 
 use crate::auto::{Auto, AutoFault};
 use crate::function::Function;
@@ -19,7 +19,7 @@ pub(crate) fn discover(alloc: Global, auto: &Auto) -> Result<Vec<Function>, Auto
     requires auto { IsAuto (plain_auto auto.now) }
     ensures numbered { IfOk result (λ functions. IsNumbering (plain_auto auto.now) functions.items) }
     ensures few { IfOk result (λ functions. length functions.items ≤ GREATEST_TABLE) }
-    ensures too_many { IfErr result (λ fault. fault ≡ TooMany → AreMany (plain_auto auto.now)) }
+    ensures too_many { IfErr result (λ fault. fault ≡ TooMany → are_too_many (plain_auto auto.now) ≡ true) }
 {
     let mut functions = match first(alloc, auto) {
         Ok(functions) => functions,

@@ -15,5 +15,5 @@ mod tests;
 
 pub use auto::{Auto, AutoFault, LETTER_LIMIT, STATE_LIMIT};
 pub use calls::transition_monoid;
-pub use law::{auto_limits, transition_laws};
+pub use law::{auto_limits, too_many_law, transition_laws};
 pub use monoid::AutoMonoid;

@@ -6,7 +6,8 @@ use Rattle.auto_monoid.specs.AutoOf.{plain_auto}
 use Rattle.auto_monoid.specs.Functions.{IsFunction}
 use Rattle.auto_monoid.specs.MonoidOf.{product_table}
 use Rattle.auto_monoid.proofs.Products.{all_functions, product_table-IsTable, product_table-IsMonoid}
-use Rattle.auto_monoid.proofs.Products.{words_few, no_fault}
+use Rattle.auto_monoid.proofs.Products.{no_fault}
+use Rattle.auto_monoid.proofs.All.{are_not_too_many}
 use Rattle.auto_monoid.proofs.calls.transition_monoid.Goals as goal
 
 pub table_of-requires-clause-functions : goal.table_of-requires-clause-functions
@@ -40,5 +41,5 @@ want_of_memory-requires c =
 
 pub returns-in-Ok-check_table-clause-few : goal.returns-in-Ok-check_table-clause-few
 returns-in-Ok-check_table-clause-few c =
-    words_few (plain_auto c.args.auto) c.requires.auto c.in_ok-functions.functions.items
+    are_not_too_many (plain_auto c.args.auto) c.in_ok-functions.functions.items
     c.in_ok-functions.ensures.numbered c.in_ok-functions.ensures.few

@@ -1,10 +1,11 @@
-use Rattle.std.proofs.Common.{◌≡◌, ◌<◌, [], All, length, get_or, sym, subst, arith}
+use Rattle.std.proofs.Common.{◌≡◌, ◌+◌, ◌<◌, ◌≤◌, [], All, length, get_or, sym, subst, arith}
 use Rattle.std.specs.List.{fold}
 use Rattle.auto_monoid.specs.AutoOf.{plain_auto}
 use Rattle.auto_monoid.specs.Functions.{IsFunction}
 use Rattle.auto_monoid.specs.Numbering.{extensions, with_new}
-use Rattle.auto_monoid.proofs.Found.{IsNumbering-from, discovered-IsFunction, many-more, discovered-more}
+use Rattle.auto_monoid.proofs.Found.{IsNumbering-from, discovered-IsFunction, discovered-more}
 use Rattle.auto_monoid.proofs.Found.{closed-more, longer-more}
+use Rattle.auto_monoid.proofs.All.{too_many_found}
 use Rattle.auto_monoid.proofs.discovery.discover.Goals as goal
 
 pub returns-then-element-len-clause-numbered : goal.returns-then-element-len-clause-numbered
@@ -29,7 +30,9 @@ returns-then-len-clause-too_many c =
     let inside : n < length fs = (let apart = c.if-element-len.false in let len = c.len.ensures in omega arith) in
     let extended : hs ≡ fold with_new fs (extensions a (get_or fs n [])) = c.in_default.ensures in
     let many : 64 < length hs = (let more = c.if-len.true in let len = c.len-in-loop-element.ensures in omega arith) in
-    λ _. many-more a fs hs n inside c.loop-element.invariant.so_far extended many
+    let step : n + 1 ≤ 64 = omega arith in
+    λ _. too_many_found a (n + 1) step
+    (subst (λ gs. 64 < length gs) (discovered-more a fs hs n inside c.loop-element.invariant.so_far extended) many)
 
 pub loop-element-preserved : goal.loop-element-preserved
 loop-element-preserved c =

@@ -1,4 +1,4 @@
-use Rattle.algebra_tests.proofs.best_lists.the_first_of_some_candidates.Given as goal
+use Rattle.list_tests.proofs.best_lists.the_first_of_some_candidates.Given as goal
 
 abbrev pub ghosts-sum_of_candidates : goal.ghosts-sum_of_candidates
 ghosts-sum_of_candidates g a = record { name = a.blank.name; parts = a.blank.parts }

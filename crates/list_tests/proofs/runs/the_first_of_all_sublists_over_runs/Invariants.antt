@@ -1,4 +1,4 @@
-use Rattle.algebra_tests.proofs.best_lists.the_first_of_all_sublists.Given as goal
+use Rattle.list_tests.proofs.runs.the_first_of_all_sublists_over_runs.Given as goal
 
 abbrev pub ghosts-sublists : goal.ghosts-sublists
 ghosts-sublists g a = record { name = a.blank.name; parts = a.blank.parts }

@@ -1,5 +1,5 @@
 use Rattle.std.proofs.Common.{◌≤◌}
-use Rattle.algebra_tests.proofs.meaning.passing.Given as goal
+use Rattle.meaning_tests.proofs.meaning.passing.Given as goal
 
 abbrev pub invariant-loop-code : goal.invariant-loop-code
 invariant-loop-code l = l.found ≤ l.code

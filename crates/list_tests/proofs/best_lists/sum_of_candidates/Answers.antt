@@ -2,7 +2,7 @@
 use Rattle.semiring_kit.specs.Semiring.{IsGood}
 use Rattle.semiring_kit.proofs.Sums.{add_is_good}
 use Rattle.std.proofs.Common.{sym, subst}
-use Rattle.algebra_tests.proofs.best_lists.sum_of_candidates.Goals as goal
+use Rattle.list_tests.proofs.best_lists.sum_of_candidates.Goals as goal
 
 pub candidates-preserved : goal.candidates-preserved
 candidates-preserved g c =

@@ -2,8 +2,8 @@ use Rattle.std.proofs.Common.{◌+◌, ◌<◌, Bool, true, false, List, lit<, s
 use Rattle.shape_gen.specs.declared.mark.Mark.{Mark}
 use Rattle.gta_meaning.specs.InRange.{IsInRange}
 use Rattle.gta_meaning.proofs.InRange.{in_range-push, in_range-skip}
-use Rattle.algebra_tests.proofs.meaning.candidate_of.Goals as goal
-use Rattle.algebra_tests.proofs.meaning.candidate_of.Goals.{then-first+in_ok-push, else-first+else-every}
+use Rattle.meaning_tests.proofs.meaning.candidate_of.Goals as goal
+use Rattle.meaning_tests.proofs.meaning.candidate_of.Goals.{then-first+in_ok-push, else-first+else-every}
 use mir.Val.{bool_byte}
 
 bool_byte-below : (b : Bool) → bool_byte b < 2
