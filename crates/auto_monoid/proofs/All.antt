@@ -164,6 +164,16 @@ module _ (a : PlainAuto) where
         | inr further ↦ absurd (omega arith)
       ]
 
+  -- where there are no more than 64, all functions are a numbering
+  pub few-IsNumbering : are_too_many a ≡ false → IsNumbering a (all_functions a)
+  few-IsNumbering few = by_progress 64 refl (at-few 64 refl few) (progress 64)
+    where
+      by_progress : (n : ℕ) → 64 ≡ n → length (discovered a n) ≤ 64 → Progress n → IsNumbering a (all_functions a)
+      by_progress n is within progress_there = elim progress_there [
+        | inl done ↦ subst (IsNumbering a) (sym (all_functions-at n is)) done.0
+        | inr further ↦ absurd (omega arith)
+      ]
+
   module _ (fs : List (List ℕ)) (numbered : IsNumbering a fs) (few : length fs ≤ 64) where
     pub are_all : fs ≡ all_functions a
     are_all = sym (all_functions-at 64 refl ∙ discovered-stays fs numbered 64 few)

@@ -9,7 +9,7 @@ use Rattle.gta_spec.specs.declared.parts.TermPart.{TermPart}
 use Rattle.gta_spec.specs.declared.parts.AtomPart.{AtomPart}
 use Rattle.gta_spec.specs.declared.parts.AtomPart.TheVariants.{Label, Column}
 use Rattle.gta_spec.specs.declared.parts.RankPart.{RankPart}
-use Rattle.gta_spec.specs.Parts.{CaseTree, PickTree, Fold, Table}
+use Rattle.gta_spec.specs.Parts.{CaseTree, PickTree, Table}
 use Rattle.gta_spec.specs.Keep as keeps
 use Rattle.gta_spec.specs.Keep.{KeepTree, Place, Whole, Conjunct, Operand, encloses_both, encloses_either}
 use Rattle.gta_spec.specs.Symbols.{Word, Later}
@@ -17,7 +17,7 @@ use Rattle.gta_canonical.specs.Canonical.{Piece, spaced, glued, piece_text, line
 use Rattle.gta_canonical.specs.Canonical.{names_front, num_front, header_front, item_front, atom_front, and_front}
 use Rattle.gta_canonical.specs.Canonical.{if_front, quantity_front, first_sign_front, first_term_front}
 use Rattle.gta_canonical.specs.Canonical.{next_term_front, form_front, case_front, next_case_front, cases_front}
-use Rattle.gta_canonical.specs.Canonical.{pick_front, next_pick_front, picks_front, test_front, kind_front}
+use Rattle.gta_canonical.specs.Canonical.{pick_front, next_pick_front, picks_front, kind_front}
 use Rattle.gta_canonical.specs.Canonical.{open_front, close_front, keep_front, rank_front, next_rank_front, best_front}
 
 -- pieces in front of a rest
@@ -157,10 +157,6 @@ pub pick_splits : (x : PickTree) (rest : List Piece)
     → line_text (pick_front x rest) ≡ line_text (pick_front x []) ++ line_text rest
 pick_splits x rest = (pick_is_front x).splits rest
 
-pub picks_splits : (xs : List PickTree) (rest : List Piece)
-    → line_text (picks_front xs rest) ≡ line_text (picks_front xs []) ++ line_text rest
-picks_splits xs rest = (picks_is_front xs).splits rest
-
 pub rank_splits : (x : RankPart) (rest : List Piece)
     → line_text (rank_front x rest) ≡ line_text (rank_front x []) ++ line_text rest
 rank_splits x rest = (rank_is_front x).splits rest
@@ -189,9 +185,9 @@ written_at_end {out = out} written = sym (append-nil out) ∙ written.joined
 pub name_is_front : (x : List ℕ) → IsFront (name_front x)
 name_is_front x = one _
 
-pub three_splits : (a b c : Piece) (rest : List Piece)
-    → line_text (a ∷ b ∷ c ∷ rest) ≡ line_text (a ∷ b ∷ c ∷ []) ++ line_text rest
-three_splits a b c rest = (chain (one a) (chain (one b) (one c))).splits rest
+pub names_splits : (xs : List (List ℕ)) (rest : List Piece)
+    → line_text (names_front xs rest) ≡ line_text (names_front xs []) ++ line_text rest
+names_splits xs rest = (fronts_is_front name_is_front xs).splits rest
 
 pub table_splits : (x u : List ℕ) (es : List (List ℕ))
     → line_text (kind_front (Table (record { name = x; unit = u; elements = es })) [])
@@ -202,17 +198,24 @@ table_splits x u es =
     (chain (one (spaced (Word x))) (chain (one (spaced (Word (codes "unit")))) (one (spaced (Word u)))))).splits
     (spaced (Word (codes "elements")) ∷ names_front es [])
 
-pub fold_splits : (x : List ℕ) (ps : List PickTree) (es : List (List ℕ)) → line_text (test_front (Fold x ps es) [])
-    ≡ (line_text (spaced (Word (codes "fold")) ∷ spaced (Word x) ∷ spaced (Word (codes "by")) ∷ []) ++ line_text
-    (picks_front ps []))
-    ++ line_text (spaced (Word (codes "accept")) ∷ names_front es [])
-fold_splits x ps es =
-    let listed = spaced (Word (codes "accept")) ∷ names_front es [] in
-    (chain (one (spaced (Word (codes "fold"))))
-    (chain (one (spaced (Word x))) (chain (one (spaced (Word (codes "by")))) (picks_is_front ps)))).splits listed
-    ∙ ap (λ (t : List ℕ). t ++ line_text listed)
-    (three_splits (spaced (Word (codes "fold"))) (spaced (Word x)) (spaced (Word (codes "by")))
-    (picks_front ps []))
+pub picked_splits : (x : List ℕ) (ps : List PickTree) (rest : List Piece)
+    → line_text (spaced (Word x) ∷ spaced (Word (codes "by")) ∷ picks_front ps rest)
+    ≡ line_text (spaced (Word x) ∷ spaced (Word (codes "by")) ∷ picks_front ps []) ++ line_text rest
+picked_splits x ps rest =
+    (chain (one (spaced (Word x))) (chain (one (spaced (Word (codes "by")))) (picks_is_front ps))).splits rest
+
+-- the front of a line `automaton`, up to its letters
+abbrev pub started_front : List ℕ → List (List ℕ) → List ℕ → List Piece → List Piece
+started_front x states start rest =
+    glued (Later (codes "automaton")) ∷ spaced (Word x) ∷ spaced (Later (codes "states"))
+    ∷ names_front states (spaced (Later (codes "start")) ∷ spaced (Word start) ∷ rest)
+
+pub started_splits : (x : List ℕ) (states : List (List ℕ)) (start : List ℕ) (rest : List Piece)
+    → line_text (started_front x states start rest) ≡ line_text (started_front x states start []) ++ line_text rest
+started_splits x states start rest =
+    (chain (one (glued (Later (codes "automaton")))) (chain (one (spaced (Word x)))
+    (chain (one (spaced (Later (codes "states")))) (chain (fronts_is_front name_is_front states)
+    (chain (one (spaced (Later (codes "start")))) (one (spaced (Word start)))))))).splits rest
 
 -- two writes, where the second may fail
 pub joined : {T E : Type 0} (r : Result T E) (old mid new a b whole : List ℕ) → OnOk r (new ≡ mid ++ b)

@@ -17,8 +17,8 @@ use Rattle.gta_text.specs.Text.{raw_lines, without_last, content, is_plain, firs
 use Rattle.gta_text.specs.Text.{token_text, BadByte, line_if, with_lines, lines_from, read_lines}
 use Rattle.gta_spec.specs.Versions.{is_version, is_later}
 use Rattle.gta_spec.specs.Symbols.{Symbol, Word, Later, Digits, Text, Sign, Stray, symbol_of, symbols}
-use Rattle.gta_spec.specs.Parts.{KindTree, Columns, Labels, Measure, Table, Times, Generate, Test, Named, Keep}
-use Rattle.gta_spec.specs.Parts.{Aggregate, PartTree, SpecTree}
+use Rattle.gta_spec.specs.Parts.{KindTree, Columns, Labels, Measure, Table, Times, Automaton, Step, Generate, Test}
+use Rattle.gta_spec.specs.Parts.{Named, Keep, Aggregate, PartTree, SpecTree}
 use Rattle.gta_spec.specs.Grammar.{IsPart}
 use Rattle.gta_spec.specs.SpecText.{version_in, is_past, has_past, AreParts, none, some, SpecText}
 use Rattle.gta_spec.specs.WellFormed.{FitsKind, FitParts, IsWellFormed}
@@ -151,6 +151,8 @@ kind_no_rows (Labels xs) = no_rows (codes "labels") _ refl
 kind_no_rows (Measure part) = refl
 kind_no_rows (Table part) = refl
 kind_no_rows (Times part) = refl
+kind_no_rows (Automaton part) = refl
+kind_no_rows (Step part) = refl
 kind_no_rows (Generate s) = refl
 kind_no_rows (Test t) = no_rows (codes "test") _ refl
 kind_no_rows (Named x t) = refl
@@ -248,6 +250,8 @@ kind_first (Labels xs) = (Word (codes "labels"), (_, refl))
 kind_first (Measure part) = (Word (codes "measure"), (_, refl))
 kind_first (Table part) = (Word (codes "table"), (_, refl))
 kind_first (Times part) = (Word (codes "times"), (_, refl))
+kind_first (Automaton part) = (Later (codes "automaton"), (_, refl))
+kind_first (Step part) = (Later (codes "step"), (_, refl))
 kind_first (Generate s) = (Word (codes "generate"), (_, refl))
 kind_first (Test t) = (Word (codes "test"), (_, refl))
 kind_first (Named x t) = (Word (codes "test"), (_, refl))
@@ -325,13 +329,18 @@ two_named : NamesVersion 2
 unfolding tokens_from token_at digits
 two_named = record { prints_all = refl; no_rows_in = λ source. refl; line = refl; again = λ back. refl }
 
+three_named : NamesVersion 3
+unfolding tokens_from token_at digits
+three_named = record { prints_all = refl; no_rows_in = λ source. refl; line = refl; again = λ back. refl }
+
 known_version : (version : ℕ) → is_version version ≡ true → NamesVersion version
 known_version zero is =
     let no : true ≡ false = sym is in absurd cc
 known_version (suc zero) is = one_named
 known_version (suc (suc zero)) is = two_named
-known_version (suc (suc (suc n))) is =
-    let off : is_version (suc (suc (suc n))) ≡ false = grind (arith, nat_tests) in
+known_version (suc (suc (suc zero))) is = three_named
+known_version (suc (suc (suc (suc n)))) is =
+    let off : is_version (suc (suc (suc (suc n)))) ≡ false = grind (arith, nat_tests) in
     let no : true ≡ false = sym is ∙ off in absurd cc
 
 first_line : (version : ℕ) (source back : List ℕ) → NamesVersion version

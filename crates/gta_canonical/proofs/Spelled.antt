@@ -19,10 +19,10 @@ use Rattle.gta_spec.specs.declared.parts.Check.TheVariants.{Compare, Mod}
 use Rattle.gta_spec.specs.declared.parts.GoalPart.{GoalPart}
 use Rattle.gta_spec.specs.declared.parts.GoalPart.TheVariants.{Count, Any, Max, Min, Best, Ranked}
 use Rattle.gta_spec.specs.declared.parts.RankPart.{RankPart}
-use Rattle.gta_spec.specs.Parts.{CaseTree, PickTree, TestTree, Sum, Length, Fold, KindTree, Columns, Labels, Measure}
-use Rattle.gta_spec.specs.Parts.{Table, Times, Generate, Test, Named, Keep, Aggregate}
+use Rattle.gta_spec.specs.Parts.{CaseTree, PickTree, TestTree, Sum, Length, Fold, Run, KindTree, Columns, Labels}
+use Rattle.gta_spec.specs.Parts.{Measure, Table, Times, Automaton, Step, Generate, Test, Named, Keep, Aggregate}
 use Rattle.gta_spec.specs.declared.limits.TheConstants.{NESTING_LIMIT}
-use Rattle.gta_spec.specs.Versions.{later_words, is_later}
+use Rattle.gta_spec.specs.Versions.{second_words, third_words, is_later}
 use Rattle.gta_spec.specs.Keep as keeps
 use Rattle.gta_spec.specs.Keep.{Both, Either, all_of, any_of, kept_tests, Place, Whole, Conjunct, Operand}
 use Rattle.gta_spec.specs.Keep.{encloses_both, encloses_either, nesting}
@@ -46,9 +46,10 @@ use Rattle.gta_canonical.proofs.Lexed.{IsSignText, Closed, Writable, AreWritable
 abbrev pub syms : List Piece → List Symbol
 syms ps = map (λ p. p.symbol) ps
 
--- a word that is not among those that later versions reserve
+-- a word that no version after the first reserves
 abbrev is_first_word : List ℕ → Bool
-is_first_word x = is_word x && not (list_any (bytes_eq x) later_words)
+is_first_word x =
+    is_word x && (not (list_any (bytes_eq x) second_words) && not (list_any (bytes_eq x) third_words))
 
 first_and : (a b : Bool) → (a && b) ≡ true → a ≡ true
 first_and true b e = refl
@@ -58,24 +59,36 @@ second_and : (a b : Bool) → (a && b) ≡ true → b ≡ true
 second_and true b e = e
 second_and false b e = absurd cc
 
-off_if_not : (among on : Bool) → not among ≡ true → cond among on false ≡ false
-off_if_not true on e = absurd cc
-off_if_not false on e = refl
+off_if_not : (second third : Bool) (on early : Bool) → (not second && not third) ≡ true
+    → cond second on (cond third early false) ≡ false
+off_if_not true third on early e = absurd cc
+off_if_not false true on early e = absurd cc
+off_if_not false false on early e = refl
 
 first_word_is_writable : (version : ℕ) (x : List ℕ) → is_first_word x ≡ true → Writable version (Word x)
 unfolding is_later
 first_word_is_writable version x word =
-    let among = list_any (bytes_eq x) later_words in (
-      first_and (is_word x) (not among) word,
-      off_if_not among (nat_le 2 version) (second_and (is_word x) (not among) word),
+    let second = list_any (bytes_eq x) second_words in
+    let third = list_any (bytes_eq x) third_words in (
+      first_and (is_word x) (not second && not third) word,
+      off_if_not second third (nat_le 2 version) (nat_le 3 version)
+          (second_and (is_word x) (not second && not third) word),
     )
 
-on_if_later : (version : ℕ) (x : List ℕ) → list_any (bytes_eq x) later_words ≡ true → 2 ≤ version
+on_if_second : (version : ℕ) (x : List ℕ) → list_any (bytes_eq x) second_words ≡ true → 2 ≤ version
     → is_later version x ≡ true
 unfolding is_later
-on_if_later version x among later =
+on_if_second version x among later =
     let on : nat_le 2 version ≡ true = grind (arith, nat_tests) in
     rw (among, on) refl
+
+on_if_third : (version : ℕ) (x : List ℕ) → list_any (bytes_eq x) second_words ≡ false
+    → list_any (bytes_eq x) third_words ≡ true → 3 ≤ version
+    → is_later version x ≡ true
+unfolding is_later
+on_if_third version x other among later =
+    let on : nat_le 3 version ≡ true = grind (arith, nat_tests) in
+    rw (other, among, on) refl
 
 many_spelled : {A : Type 0} {Fits : A → Type 0} {Is : A → List Symbol → List Symbol → Type 0}
     (front : A → List Piece → List Piece)
@@ -213,9 +226,14 @@ module _ (version : ℕ) where
   a_word x rest word flows =
       record { writable = (first_word_is_writable version x word, flows.closed, flows.writable); closed = refl }
 
-  later_word : (x : List ℕ) → is_word x ≡ true → list_any (bytes_eq x) later_words ≡ true → 2 ≤ version
+  second_word : (x : List ℕ) → is_word x ≡ true → list_any (bytes_eq x) second_words ≡ true → 2 ≤ version
       → Writable version (Later x)
-  later_word x word among later = (word, on_if_later version x among later)
+  second_word x word among later = (word, on_if_second version x among later)
+
+  third_word : (x : List ℕ) → is_word x ≡ true → list_any (bytes_eq x) second_words ≡ false
+      → list_any (bytes_eq x) third_words ≡ true → 3 ≤ version
+      → Writable version (Later x)
+  third_word x word other among later = (word, on_if_third version x other among later)
 
   a_later : (x : List ℕ) (rest : List Piece) → Writable version (Later x) → Flows rest → Flows (spaced (Later x) ∷ rest)
   a_later x rest word flows = record { writable = (word, flows.closed, flows.writable); closed = refl }
@@ -468,14 +486,28 @@ module _ (version : ℕ) where
       IsTest.fold refl (the_name fits.0) refl
       (picks_spelled ps (spaced (Word (codes "accept")) ∷ names_front es []) fits.1) refl
       (names_spelled es [] fits.2)
+  test_spelled (Run a ps es) fits =
+      IsTest.run refl (the_name fits.1) refl
+      (picks_spelled ps (spaced (Word (codes "accept")) ∷ names_front es []) fits.2) refl
+      (names_spelled es [] fits.3)
+
+  -- what stands behind the first word of a fold and of a run
+  picked_flows : (x : List ℕ) (ps : List PickTree) (es : List (List ℕ)) → FitsName version x
+      → SomeFit (FitsPick version) ps → SomeFit (FitsName version) es
+      → Flows (spaced (Word x) ∷ spaced (Word (codes "by")) ∷ picks_front ps
+      (spaced (Word (codes "accept")) ∷ names_front es []))
+  picked_flows x ps es name picks accept =
+      a_name x _ name (a_word (codes "by") _ refl
+      (picks_flow ps _ picks (a_word (codes "accept") _ refl (names_flow es [] accept nothing))))
 
   test_flows : (x : TestTree) → FitsTest version x → Flows (test_front x [])
   test_flows (Sum x k) fits = a_word (codes "sum") _ refl (a_name x _ fits.0 (check_flows k [] fits.1 nothing))
   test_flows (Length k) fits = a_word (codes "length") _ refl (check_flows k [] fits nothing)
   test_flows (Fold t ps es) fits =
-      a_word (codes "fold") _ refl
-      (a_name t _ fits.0 (a_word (codes "by") _ refl
-      (picks_flow ps _ fits.1 (a_word (codes "accept") _ refl (names_flow es [] fits.2 nothing)))))
+      a_word (codes "fold") _ refl (picked_flows t ps es fits.0 fits.1 fits.2)
+  test_flows (Run a ps es) fits =
+      a_later (codes "run") _ (third_word (codes "run") refl refl refl fits.0)
+      (picked_flows a ps es fits.1 fits.2 fits.3)
 
   rank_spelled : (x : RankPart) (rest : List Piece) → FitsRank version x
       → IsFirstRank x (syms (rank_front x rest)) (syms rest)
@@ -501,7 +533,7 @@ module _ (version : ℕ) where
   next_rank_flows : 2 ≤ version → (x : RankPart) (rest : List Piece) → FitsRank version x → Flows rest
       → Flows (next_rank_front x rest)
   next_rank_flows later x rest fits flows =
-      a_later (codes "then") _ (later_word (codes "then") refl refl later) (rank_flows x rest fits flows)
+      a_later (codes "then") _ (second_word (codes "then") refl refl later) (rank_flows x rest fits flows)
 
   ranks_flow : (keys : List RankPart) → FitRanks version keys → Flows (ranks_front keys [])
   ranks_flow [] fits = nothing
@@ -637,7 +669,7 @@ module _ (version : ℕ) where
   keep_writable later place g (keeps.Test x) rest fits flows =
       (name_is_writable x fits.0, flows.closed, flows.writable)
   keep_writable later place g (keeps.Not x) rest fits flows = (
-    later_word (codes "not") refl refl later,
+    second_word (codes "not") refl refl later,
     keep_closed Operand x rest,
     keep_writable later Operand false x rest fits flows,
   )
@@ -658,12 +690,12 @@ module _ (version : ℕ) where
       } in
       open_writable (encloses_either place) g _
       (keep_writable later Whole (encloses_either place || g) x _ (left_fit (kept_tests x) (kept_tests y) fits)
-      (a_later (codes "or") _ (later_word (codes "or") refl refl later) right))
+      (a_later (codes "or") _ (second_word (codes "or") refl refl later) right))
 
   keep_line_writable : (x : Expr) → FitsKeep version x
       → AreWritable version (glued (Later (codes "keep")) ∷ keep_front Whole false x [])
   keep_line_writable x fits = (
-    later_word (codes "keep") refl refl fits.later,
+    second_word (codes "keep") refl refl fits.later,
     keep_closed Whole x [],
     keep_writable fits.later Whole false x [] fits.names nothing,
   )
@@ -678,6 +710,11 @@ module _ (version : ℕ) where
       (names_spelled part.elements [] fits.2)
   kind_spelled (Times part) fits = IsLine.times refl (the_name fits.0) (the_name fits.1) refl
       (names_spelled part.products [] fits.2)
+  kind_spelled (Automaton part) fits =
+      IsLine.automaton refl (the_name fits.1) refl (names_spelled part.states _ fits.2) refl (the_name fits.3) refl
+      (names_spelled part.letters [] fits.4)
+  kind_spelled (Step part) fits = IsLine.step refl (the_name fits.1) (the_name fits.2) refl
+      (names_spelled part.targets [] fits.3)
   kind_spelled (Generate s) fits = IsLine.generate refl (shape_spelled s)
   kind_spelled (Test t) fits = IsLine.test refl (test_spelled t fits)
   kind_spelled (Named x t) fits = IsLine.named fits.0 refl (the_name fits.1) refl (test_spelled t fits.2)
@@ -688,6 +725,10 @@ module _ (version : ℕ) where
   at_start : (x : List ℕ) (rest : List Piece) → is_first_word x ≡ true → Flows rest
       → AreWritable version (glued (Word x) ∷ rest)
   at_start x rest word flows = (first_word_is_writable version x word, flows.closed, flows.writable)
+
+  later_start : (x : List ℕ) (rest : List Piece) → Writable version (Later x) → Flows rest
+      → AreWritable version (glued (Later x) ∷ rest)
+  later_start x rest word flows = (word, flows.closed, flows.writable)
 
   pub kind_writable : (x : KindTree) → FitsKind version x → AreWritable version (kind_front x [])
   kind_writable (Columns xs) fits = at_start (codes "columns") _ refl (many_flow item_flows xs [] fits.1 nothing)
@@ -704,6 +745,19 @@ module _ (version : ℕ) where
       at_start (codes "times") _ refl
       (a_name part.table _ fits.0 (a_name part.element _ fits.1 (a_sign (codes "=") _ IsSignText.equal
       (names_flow part.products [] fits.2 nothing).writable)))
+  kind_writable (Automaton part) fits =
+      later_start (codes "automaton") _ (third_word (codes "automaton") refl refl refl fits.0)
+      (a_name part.name _ fits.1
+      (a_later (codes "states") _ (third_word (codes "states") refl refl refl fits.0)
+      (names_flow part.states _ fits.2
+      (a_later (codes "start") _ (third_word (codes "start") refl refl refl fits.0)
+      (a_name part.start _ fits.3
+      (a_later (codes "letters") _ (third_word (codes "letters") refl refl refl fits.0)
+      (names_flow part.letters [] fits.4 nothing)))))))
+  kind_writable (Step part) fits =
+      later_start (codes "step") _ (third_word (codes "step") refl refl refl fits.0)
+      (a_name part.automaton _ fits.1 (a_name part.letter _ fits.2 (a_sign (codes "=") _ IsSignText.equal
+      (names_flow part.targets [] fits.3 nothing).writable)))
   kind_writable (Generate s) fits = at_start (codes "generate") _ refl
       (a_word (shape_word s) [] (shape_is_first s) nothing)
   kind_writable (Test t) fits = at_start (codes "test") _ refl (test_flows t fits)

@@ -15,8 +15,9 @@ use Rattle.gta_spec.specs.declared.parts.Check.TheVariants.{Compare, Mod}
 use Rattle.gta_spec.specs.declared.parts.GoalPart.{GoalPart}
 use Rattle.gta_spec.specs.declared.parts.GoalPart.TheVariants.{Count, Any, Max, Min, Best, Ranked}
 use Rattle.gta_spec.specs.declared.parts.RankPart.{RankPart}
-use Rattle.gta_spec.specs.Parts.{CaseTree, PickTree, TestTree, Sum, Length, Fold, KindTree, Columns, Labels, Measure}
-use Rattle.gta_spec.specs.Parts.{Table, Times, Generate, Test, Named, Keep, Aggregate, PartTree, SpecTree}
+use Rattle.gta_spec.specs.Parts.{CaseTree, PickTree, TestTree, Sum, Length, Fold, Run, KindTree, Columns, Labels}
+use Rattle.gta_spec.specs.Parts.{Measure, Table, Times, Automaton, Step, Generate, Test, Named, Keep, Aggregate}
+use Rattle.gta_spec.specs.Parts.{PartTree, SpecTree}
 use Rattle.gta_spec.specs.Keep as keeps
 use Rattle.gta_spec.specs.Keep.{KeepTree, Place, Whole, Conjunct, Operand, encloses_both, encloses_either}
 use Rattle.gta_spec.specs.Symbols.{Symbol, Word, Later, Digits, Text, Sign, Stray}
@@ -147,6 +148,9 @@ test_front (Length check) rest = spaced (Word (codes "length")) ∷ check_front 
 test_front (Fold table picks accept) rest =
     spaced (Word (codes "fold")) ∷ spaced (Word table) ∷ spaced (Word (codes "by"))
     ∷ picks_front picks (spaced (Word (codes "accept")) ∷ names_front accept rest)
+test_front (Run automaton picks accept) rest =
+    spaced (Later (codes "run")) ∷ spaced (Word automaton) ∷ spaced (Word (codes "by"))
+    ∷ picks_front picks (spaced (Word (codes "accept")) ∷ names_front accept rest)
 
 -- the parentheses of an expression that has them
 abbrev pub open_front : Bool → Bool → List Piece → List Piece
@@ -220,6 +224,13 @@ kind_front (Table part) rest =
 kind_front (Times part) rest =
     glued (Word (codes "times")) ∷ spaced (Word part.table) ∷ spaced (Word part.element)
     ∷ spaced (Sign (codes "=")) ∷ names_front part.products rest
+kind_front (Automaton part) rest =
+    glued (Later (codes "automaton")) ∷ spaced (Word part.name) ∷ spaced (Later (codes "states"))
+    ∷ names_front part.states (spaced (Later (codes "start")) ∷ spaced (Word part.start)
+    ∷ spaced (Later (codes "letters")) ∷ names_front part.letters rest)
+kind_front (Step part) rest =
+    glued (Later (codes "step")) ∷ spaced (Word part.automaton) ∷ spaced (Word part.letter)
+    ∷ spaced (Sign (codes "=")) ∷ names_front part.targets rest
 kind_front (Generate shape) rest =
     glued (Word (codes "generate")) ∷ spaced (Word (shape_word shape)) ∷ rest
 kind_front (Test test) rest = glued (Word (codes "test")) ∷ test_front test rest
@@ -231,7 +242,7 @@ kind_front (Aggregate goal) rest = glued (Word (codes "aggregate")) ∷ goal_fro
 abbrev pub part_text : PartTree → List ℕ
 part_text part = line_text (kind_front part.kind []) ++ 10 ∷ []
 
--- `gta 1` or `gta 2`
+-- `gta` and the number of the version
 abbrev pub version_text : ℕ → List ℕ
 version_text version = codes "gta " ++ decimal version
 

@@ -1,8 +1,9 @@
-//! Printing measures, folds and whole lines. What is printed is in specs/Canonical.antt; each
+//! Printing measures, tests and whole lines. What is printed is in specs/Canonical.antt; each
 //! function adds what the definition of its name with `_front` says.
 ghost use Rattle.std.specs.Prelude.{◌≡◌, ℕ, Bool, [], ◌∷◌, ◌++◌, map, flat_map, IfOk, OnOk, codes};
 ghost use Rattle.std.specs.Prelude.{decimal, Option, if◌then◌else◌};
-ghost use Rattle.gta_spec.specs.Parts.{case_tree, pick_tree, test_tree, kind_tree, part_tree};
+ghost use Rattle.gta_spec.specs.Parts.{case_tree, automaton_tree, step_tree, pick_tree, test_tree};
+ghost use Rattle.gta_spec.specs.Parts.{kind_tree, part_tree, Automaton, Step};
 ghost use Rattle.gta_spec.specs.Symbols.{Word};
 ghost use Rattle.gta_canonical.specs.Canonical.{spaced, line_text, fronts, names_front};
 ghost use Rattle.gta_canonical.specs.Canonical.{quantity_front, first_term_front, next_term_front};
@@ -17,7 +18,10 @@ use crate::printing::{
     put_behind, put_cmp, put_digits, put_if, put_items, put_name, put_names, put_num, put_number,
     put_spaced,
 };
-use gta_spec::{CasePart, Check, GoalPart, Part, PartKind, PickPart, RankPart, TermPart, TestPart};
+use gta_spec::{
+    AutomatonPart, CasePart, Check, GoalPart, Part, PartKind, PickPart, RankPart, StepPart,
+    TermPart, TestPart,
+};
 use gta_text::Name;
 use shape_gen::Shape;
 use std::alloc::{AllocError, Global};
@@ -213,20 +217,37 @@ fn put_test(alloc: Global, out: &mut Vec<u8>, test: &TestPart) -> Result<(), All
             picks,
             accept,
         } => {
-            put_folded(out, table)?;
-            put_picks(alloc, out, picks)?;
-            put_listed(out, b"accept", accept)
+            put_spaced(out, b"fold")?;
+            put_picked(alloc, out, table, picks, accept)
+        }
+        TestPart::Run {
+            automaton,
+            picks,
+            accept,
+        } => {
+            put_spaced(out, b"run")?;
+            put_picked(alloc, out, automaton, picks, accept)
         }
     }
 }
 
-fn put_folded(out: &mut Vec<u8>, table: &Name) -> Result<(), AllocError>
-    ensures { OnOk result (out.new.items ≡ out.old.items ++ line_text (spaced (Word (codes "fold"))
-        ∷ spaced (Word table.now) ∷ spaced (Word (codes "by")) ∷ [])) }
+/// What a fold and a run have in common: the name, the picks, and what is accepted.
+fn put_picked(
+    alloc: Global,
+    out: &mut Vec<u8>,
+    name: &Name,
+    picks: &[PickPart],
+    accept: &[Name],
+) -> Result<(), AllocError>
+    ensures { OnOk result (out.new.items ≡ out.old.items
+        ++ line_text (spaced (Word name.now) ∷ spaced (Word (codes "by"))
+        ∷ picks_front (map pick_tree picks.now)
+        (spaced (Word (codes "accept")) ∷ names_front accept.now []))) }
 {
-    put_spaced(out, b"fold")?;
-    put_name(out, table)?;
-    put_spaced(out, b"by")
+    put_name(out, name)?;
+    put_spaced(out, b"by")?;
+    put_picks(alloc, out, picks)?;
+    put_listed(out, b"accept", accept)
 }
 
 /// The word, and then the names.
@@ -375,6 +396,8 @@ fn put_kind(alloc: Global, out: &mut Vec<u8>, kind: &PartKind) -> Result<(), All
             put_spaced(out, b"=")?;
             put_names(out, &part.products)
         }
+        PartKind::Automaton(part) => put_automaton(out, part),
+        PartKind::Step(part) => put_step(out, part),
         PartKind::Generate(shape) => {
             out.extend_from_slice(b"generate")?;
             put_shape(out, *shape)
@@ -395,6 +418,29 @@ fn put_kind(alloc: Global, out: &mut Vec<u8>, kind: &PartKind) -> Result<(), All
             put_goal(alloc, out, goal)
         }
     }
+}
+
+fn put_automaton(out: &mut Vec<u8>, part: &AutomatonPart) -> Result<(), AllocError>
+    ensures { OnOk result (out.new.items ≡ out.old.items
+        ++ line_text (kind_front (Automaton (automaton_tree part.now)) [])) }
+{
+    out.extend_from_slice(b"automaton")?;
+    put_name(out, &part.name)?;
+    put_listed(out, b"states", &part.states)?;
+    put_spaced(out, b"start")?;
+    put_name(out, &part.start)?;
+    put_listed(out, b"letters", &part.letters)
+}
+
+fn put_step(out: &mut Vec<u8>, part: &StepPart) -> Result<(), AllocError>
+    ensures { OnOk result (out.new.items ≡ out.old.items
+        ++ line_text (kind_front (Step (step_tree part.now)) [])) }
+{
+    out.extend_from_slice(b"step")?;
+    put_name(out, &part.automaton)?;
+    put_name(out, &part.letter)?;
+    put_spaced(out, b"=")?;
+    put_names(out, &part.targets)
 }
 
 /// The part on a line of its own.

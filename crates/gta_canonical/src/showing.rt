@@ -10,7 +10,7 @@ use crate::printing::put_digits;
 use gta_spec::{Part, Spec};
 use std::alloc::{AllocError, Global};
 
-/// The canonical text of the specification: `gta 1` or `gta 2`, each part on a line of its own, and `rows`.
+/// The canonical text of the specification: `gta` and its version, each part on a line of its own, and `rows`.
 /// Refuses only for want of memory.
 pub fn show_spec(alloc: Global, spec: &Spec) -> Result<Vec<u8>, AllocError>
     requires { IsWellFormed (spec_tree spec.now) }

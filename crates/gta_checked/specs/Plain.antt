@@ -3,6 +3,9 @@ use Rattle.std.specs.Prelude.{ℕ, Bool, List, map, Option, option_map}
 use Rattle.shape_gen.specs.declared.shape.Shape.{Shape}
 use Rattle.monoid_kit.specs.Table.{PlainTable}
 use Rattle.monoid_kit.specs.TableOf.{plain_table}
+use Rattle.auto_monoid.specs.declared.monoid.AutoMonoid.{AutoMonoid}
+use Rattle.auto_monoid.specs.Auto.{PlainAuto}
+use Rattle.auto_monoid.specs.TransitionOf.{machine}
 use Rattle.gta_spec.specs.declared.parts.Check.{Check}
 use Rattle.gta_spec.specs.declared.parts.ColumnItem.{ColumnItem}
 use Rattle.gta_checked.specs.declared.resolved.Term.{Term}
@@ -24,7 +27,7 @@ pub record PlainCase : Type 0 where
   pub form : List Term
   pub cond : List Atom
 
--- an element, and the atoms of its condition
+-- an element or a letter, and the atoms of its condition
 pub record PlainPick : Type 0 where
   pub element : ℕ
   pub cond : List Atom
@@ -39,6 +42,7 @@ pub data PlainTest : Type 0 where
   Sum : ℕ → Check → PlainTest
   Length : Check → PlainTest
   Fold : ℕ → List PlainPick → List ℕ → PlainTest
+  Run : ℕ → List PlainPick → List ℕ → PlainTest
 
 -- a specification with its names resolved; a measure is the list of its cases
 pub record PlainChecked : Type 0 where
@@ -47,6 +51,7 @@ pub record PlainChecked : Type 0 where
   pub labels : List (List ℕ)
   pub measures : List (List PlainCase)
   pub tables : List NamedTable
+  pub automata : List PlainAuto
   pub tests : List PlainTest
   -- whether each test has a name, and what those that have one must come to together
   pub named : List Bool
@@ -74,6 +79,7 @@ abbrev pub plain_test : Test → PlainTest
 plain_test (tests.Sum measure check) = Sum measure check
 plain_test (tests.Length check) = Length check
 plain_test (tests.Fold table picks accept) = Fold table (map plain_pick picks.items) accept.items
+plain_test (tests.Run automaton picks accept) = Run automaton (map plain_pick picks.items) accept.items
 
 abbrev pub plain_keep : Keep → KeepTree ℕ
 plain_keep (keeps.Test test) = keep.Test test
@@ -84,15 +90,16 @@ plain_keep (keeps.Either' p x q y) = keep.Either (plain_keep x) (plain_keep y)
 abbrev pub plain_keep_if : Option Keep → Option (KeepTree ℕ)
 plain_keep_if keep = option_map plain_keep keep
 
-abbrev pub plain_checked : ℕ → List ColumnItem → List (List ℕ) → List Measure → List Table → List Test
-    → List Bool → Option Keep → Shape → Goal → PlainChecked
-plain_checked version columns labels measures tables tests named keep shape goal =
+abbrev pub plain_checked : ℕ → List ColumnItem → List (List ℕ) → List Measure → List Table → List AutoMonoid
+    → List Test → List Bool → Option Keep → Shape → Goal → PlainChecked
+plain_checked version columns labels measures tables automata tests named keep shape goal =
     record {
       version = version;
       columns = columns;
       labels = labels;
       measures = map plain_measure measures;
       tables = map plain_named tables;
+      automata = map machine automata;
       tests = map plain_test tests;
       named = named;
       keep = plain_keep_if keep;

@@ -1,10 +1,11 @@
 -- The limits that every checked specification keeps: its numbers are declared, and its lists and numbers are not too
 -- large.
-use Rattle.std.specs.Prelude.{◌≡◌, ℕ, ◌+◌, ◌<◌, ◌≤◌, ◌↔◌, ℤ, pos, ◌≤ℤ◌, nat_abs, true, List, length, Option, Some}
-use Rattle.std.specs.Prelude.{None, All}
+use Rattle.std.specs.Prelude.{◌≡◌, ℕ, ◌+◌, ◌<◌, ◌≤◌, ◌↔◌, ℤ, pos, ◌≤ℤ◌, nat_abs, true, false, List, length, Option}
+use Rattle.std.specs.Prelude.{Some, None, All}
 use Rattle.gta_text.specs.declared.numbers.TheConstants.{NUMBER_BOUND}
 use Rattle.shape_gen.specs.declared.shape.Shape.TheVariants.{Assign}
-use Rattle.gta_spec.specs.declared.limits.TheConstants.{ATOM_LIMIT, BOUND_LIMIT, CASE_LIMIT, COLUMN_LIMIT, FACTOR_LIMIT}
+use Rattle.gta_spec.specs.declared.limits.TheConstants.{ATOM_LIMIT, AUTOMATON_LIMIT, BOUND_LIMIT, CASE_LIMIT}
+use Rattle.gta_spec.specs.declared.limits.TheConstants.{COLUMN_LIMIT, FACTOR_LIMIT}
 use Rattle.gta_spec.specs.declared.limits.TheConstants.{KEEP_LIMIT, LABEL_LIMIT, MEASURE_LIMIT, MODULUS_LIMIT}
 use Rattle.gta_spec.specs.declared.limits.TheConstants.{RANK_LIMIT, TABLE_LIMIT, TERM_LIMIT, TEST_LIMIT}
 use Rattle.gta_spec.specs.Versions.{is_version}
@@ -18,8 +19,10 @@ use Rattle.gta_checked.specs.declared.resolved.Goal.TheVariants.{Count, Any, Max
 use Rattle.gta_checked.specs.declared.resolved.Rank.{Rank}
 use Rattle.gta_spec.specs.Keep.{KeepTree, kept_tests}
 use Rattle.monoid_kit.specs.Table.{IsLawfulTable}
-use Rattle.gta_checked.specs.Plain.{NamedTable, PlainCase, PlainPick, PlainTest, Sum, Length, Fold, PlainChecked}
-use Rattle.gta_checked.specs.Tables.{table_at}
+use Rattle.auto_monoid.specs.Auto.{PlainAuto, IsAuto}
+use Rattle.auto_monoid.specs.Numbering.{are_too_many}
+use Rattle.gta_checked.specs.Plain.{NamedTable, PlainCase, PlainPick, PlainTest, Sum, Length, Fold, Run, PlainChecked}
+use Rattle.gta_checked.specs.Tables.{table_at, automaton_at}
 
 -- a declared column has a factor, and a number is one that a specification can have
 abbrev pub IsFactorWithin : ℕ → ℤ → Option ℕ → Type 0
@@ -68,11 +71,26 @@ pub record IsFoldWithin (columns labels : ℕ) (tables : List NamedTable) (table
   pub each_pick : All (IsPickWithin columns labels (table_size tables table)) picks
   pub accepted : All (λ element. element < table_size tables table) accept
 
-abbrev pub IsTestWithin : ℕ → ℕ → ℕ → List NamedTable → PlainTest → Type 0
-IsTestWithin columns labels measures tables (Sum measure check) = (measure < measures) × IsCheckWithin check
-IsTestWithin columns labels measures tables (Length check) = IsCheckWithin check
-IsTestWithin columns labels measures tables (Fold table picks accept) =
+-- an automaton with no more than 64 functions of words
+pub record IsAutomatonWithin (automaton : PlainAuto) : Type 0 where
+  pub is_auto : IsAuto automaton
+  pub few : are_too_many automaton ≡ false
+
+-- the letters and states of a run are those of its automaton
+pub record IsRunWithin (columns labels : ℕ) (automata : List PlainAuto) (automaton : ℕ) (picks : List PlainPick)
+    (accept : List ℕ) : Type 0 where
+  pub declared : automaton < length automata
+  pub few_picks : length picks ≤ CASE_LIMIT
+  pub each_pick : All (IsPickWithin columns labels (automaton_at automata automaton).letters) picks
+  pub accepted : All (λ state. state < (automaton_at automata automaton).states) accept
+
+abbrev pub IsTestWithin : ℕ → ℕ → ℕ → List NamedTable → List PlainAuto → PlainTest → Type 0
+IsTestWithin columns labels measures tables automata (Sum measure check) = (measure < measures) × IsCheckWithin check
+IsTestWithin columns labels measures tables automata (Length check) = IsCheckWithin check
+IsTestWithin columns labels measures tables automata (Fold table picks accept) =
     IsFoldWithin columns labels tables table picks accept
+IsTestWithin columns labels measures tables automata (Run automaton picks accept) =
+    IsRunWithin columns labels automata automaton picks accept
 
 abbrev pub IsKeptWithin : Option ℕ → Type 0
 IsKeptWithin None = Unit {0}
@@ -107,9 +125,11 @@ pub record IsWithinLimits (checked : PlainChecked) : Type 0 where
   pub measures : All (IsMeasureWithin (length checked.columns) (length checked.labels)) checked.measures
   pub few_tables : length checked.tables ≤ TABLE_LIMIT
   pub tables : All IsTableWithin checked.tables
+  pub few_automata : length checked.automata ≤ AUTOMATON_LIMIT
+  pub automata : All IsAutomatonWithin checked.automata
   pub few_tests : length checked.tests ≤ TEST_LIMIT
   pub tests : All (IsTestWithin (length checked.columns) (length checked.labels) (length checked.measures)
-      checked.tables) checked.tests
+      checked.tables checked.automata) checked.tests
   pub each_named : length checked.named ≡ length checked.tests
   pub keep : IsKeepWithin (length checked.tests) checked.keep
   pub goal : IsGoalWithin (length checked.measures) checked.goal

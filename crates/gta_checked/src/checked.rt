@@ -1,10 +1,12 @@
 //! A checked specification. What contracts see of it is in specs/Plain.antt, its limits are in specs/Within.antt.
 
 ghost use Rattle.std.specs.Prelude.{◌≡◌, map};
+ghost use Rattle.auto_monoid.specs.TransitionOf.{machine};
 ghost use Rattle.gta_checked.specs.Plain.{plain_checked, plain_keep_if, plain_measure, plain_named, plain_test};
 ghost use Rattle.gta_checked.specs.Within.{IsWithinLimits};
 
 use crate::resolved::{Goal, Keep, Measure, Table, Test};
+use auto_monoid::AutoMonoid;
 use gta_spec::ColumnItem;
 use gta_text::Name;
 use shape_gen::Shape;
@@ -18,6 +20,7 @@ pub struct Checked {
     labels: Vec<Name>,
     measures: Vec<Measure>,
     tables: Vec<Table>,
+    automata: Vec<AutoMonoid>,
     tests: Vec<Test>,
     named: Vec<bool>,
     keep: Option<Keep>,
@@ -36,10 +39,10 @@ impl Model for Checked {
     ghost coded = { Prim.hlevel (codes, coded_keep) };
 
     ghost view = { λ c. plain_checked c.version c.columns.items c.labels.items c.measures.items
-        c.tables.items c.tests.items c.named.items c.keep c.shape c.goal };
+        c.tables.items c.automata.items c.tests.items c.named.items c.keep c.shape c.goal };
 
     ghost invariant = { λ c. IsWithinLimits (plain_checked c.version c.columns.items c.labels.items
-        c.measures.items c.tables.items c.tests.items c.named.items c.keep c.shape c.goal) };
+        c.measures.items c.tables.items c.automata.items c.tests.items c.named.items c.keep c.shape c.goal) };
 }
 
 /// Each reader lends its part, and takes no memory.
@@ -51,6 +54,7 @@ impl Checked {
         labels: Vec<Name>,
         measures: Vec<Measure>,
         tables: Vec<Table>,
+        automata: Vec<AutoMonoid>,
         tests: Vec<Test>,
         named: Vec<bool>,
         keep: Option<Keep>,
@@ -58,9 +62,9 @@ impl Checked {
         goal: Goal,
     ) -> Checked
         requires within { IsWithinLimits (plain_checked version columns.items labels.items
-            measures.items tables.items tests.items named.items keep shape goal) }
+            measures.items tables.items automata.items tests.items named.items keep shape goal) }
         ensures { result ≡ plain_checked version columns.items labels.items
-            measures.items tables.items tests.items named.items keep shape goal }
+            measures.items tables.items automata.items tests.items named.items keep shape goal }
     {
         Checked {
             version,
@@ -68,6 +72,7 @@ impl Checked {
             labels,
             measures,
             tables,
+            automata,
             tests,
             named,
             keep,
@@ -113,6 +118,14 @@ impl Checked {
         ensures within { IsWithinLimits self.now }
     {
         &self.tables
+    }
+
+    /// The transition monoids of the automata, in the order of their lines.
+    pub fn automata(&self) -> &Vec<AutoMonoid>
+        ensures automata { map machine result.now.items ≡ self.now.automata }
+        ensures within { IsWithinLimits self.now }
+    {
+        &self.automata
     }
 
     /// The tests, in the order of their lines.

@@ -1,5 +1,6 @@
-//! The parts of a checked specification. Columns, labels, measures, tables and elements are numbered in their
-//! declared order from 0; the measures are the columns, followed by the declared measures.
+//! The parts of a checked specification. Columns, labels, measures, tables and their elements, automata, their states
+//! and their letters are numbered in their declared order from 0; the measures are the columns, followed by the
+//! declared measures.
 
 use gta_spec::{Check, Cmp};
 use gta_text::Name;
@@ -33,7 +34,7 @@ pub struct Measure {
     pub cases: Vec<Case>,
 }
 
-/// An element, and the atoms of its condition. No atoms: it always holds.
+/// An element or a letter, and the atoms of its condition. No atoms: it always holds.
 #[derive(Debug, Drop)]
 pub struct Pick {
     pub element: u32,
@@ -60,6 +61,12 @@ pub enum Test {
     },
     Fold {
         table: u32,
+        picks: Vec<Pick>,
+        accept: Vec<u32>,
+    },
+    /// The picks are letters, and states are accepted.
+    Run {
+        automaton: u32,
         picks: Vec<Pick>,
         accept: Vec<u32>,
     },

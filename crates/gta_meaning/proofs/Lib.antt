@@ -8,6 +8,8 @@ pub mod Weights
 pub mod InRange
 pub mod Generated
 pub mod Products
+pub mod FirstPick
+pub mod Reached
 pub mod ByNumber
 pub mod Accepted
 pub mod KeptBy

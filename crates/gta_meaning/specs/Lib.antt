@@ -1,6 +1,7 @@
 pub mod Values
 pub mod InRange
 pub mod Folds
+pub mod Runs
 pub mod Tests
 pub mod Elements
 pub mod Kept

@@ -9,9 +9,10 @@ use Rattle.gta_spec.specs.declared.parts.Check.{Check}
 use Rattle.gta_spec.specs.declared.parts.Check.TheVariants.{Compare, Mod}
 use Rattle.gta_spec.specs.Keep.{KeepTree, keep_holds}
 use Rattle.gta_checked.specs.PlainRows.{PlainRows}
-use Rattle.gta_checked.specs.Plain.{PlainTest, Sum, Length, Fold, PlainChecked}
-use Rattle.gta_checked.specs.Tables.{table_at}
+use Rattle.gta_checked.specs.Plain.{PlainTest, Sum, Length, Fold, Run, PlainChecked}
+use Rattle.gta_checked.specs.Tables.{table_at, automaton_at}
 use Rattle.gta_meaning.specs.Folds.{folded}
+use Rattle.gta_meaning.specs.Runs.{state_reached}
 use Rattle.gta_meaning.specs.Values.{compares, total}
 
 -- a number compares with the bound as written, or has the residue as its remainder, which is the
@@ -20,13 +21,15 @@ abbrev pub meets : Check → ℤ → Bool
 meets (Compare cmp number) total = compares cmp total number
 meets (Mod modulus residue) total = int_eq (int_rem_euclid total (pos modulus)) (pos residue)
 
--- the total of the measure meets the check, or the number of marks does, or the product of the fold is
--- among the accepted elements
+-- the total of the measure meets the check, or the number of marks does, or the product of the fold is among the
+-- accepted elements, or the state that the run reaches is among the accepted states
 abbrev pub passes_test : PlainChecked → PlainRows → List Mark → PlainTest → Bool
 passes_test checked rows marks (Sum measure check) = meets check (total checked rows measure marks)
 passes_test checked rows marks (Length check) = meets check (pos (length marks))
 passes_test checked rows marks (Fold table picks accept) =
     list_any (λ element. element == folded rows (table_at checked.tables table).products picks marks) accept
+passes_test checked rows marks (Run automaton picks accept) =
+    list_any (λ state. state == state_reached rows (automaton_at checked.automata automaton) picks marks) accept
 
 -- the tests without a name hold, by what each test comes to
 abbrev pub unnamed_hold : List Bool → List Bool → Bool

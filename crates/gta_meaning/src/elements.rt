@@ -1,4 +1,5 @@
-//! The elements that folds accept, as sets, so that a list of them is looked through once however often it is asked.
+//! The elements that folds accept and the states that runs accept, as sets, so that a list of them is looked through
+//! once however often it is asked.
 //! specs/Elements.antt has what a set holds.
 
 ghost use Rattle.std.specs.Prelude.{◌≡◌, ◌<◌, Bool, List, All, length, IfOk};
@@ -11,7 +12,7 @@ use monoid_kit::Monoid;
 use std::alloc::{AllocError, Global};
 use std::marker::Model;
 
-/// Some elements of a table, as a flag for each of its elements.
+/// Some elements of a table, as a flag for each of its elements; or some states of an automaton alike.
 #[derive(Drop)]
 pub struct ElementSet {
     flags: Vec<bool>,
@@ -44,8 +45,8 @@ impl ElementSet {
     }
 }
 
-/// For each test a set of the elements that it accepts; it is empty where the test is no fold. It takes memory
-/// for them.
+/// For each test a set of the elements or states that it accepts; it is empty where the test is neither a fold nor a
+/// run. It takes memory for them.
 pub fn accepted_elements(alloc: Global, checked: &Checked) -> Result<Vec<ElementSet>, AllocError>
     ensures { IfOk result (λ sets. AreAccepted checked.now.tests sets.items) }
 {
@@ -59,13 +60,21 @@ pub fn accepted_elements(alloc: Global, checked: &Checked) -> Result<Vec<Element
 
 fn accepted_by(alloc: Global, checked: &Checked, test: &Test) -> Result<ElementSet, AllocError>
     requires within { IsTestWithin (length checked.now.columns) (length checked.now.labels)
-        (length checked.now.measures) checked.now.tables (plain_test test.now) }
+        (length checked.now.measures) checked.now.tables checked.now.automata (plain_test test.now) }
     ensures { IfOk result (IsAccepted (plain_test test.now)) }
 {
     match test {
         Test::Fold { table, accept, .. } => {
             let size = checked.tables()[*table as usize].monoid.size();
             ElementSet::of(alloc, size, accept)
+        }
+        Test::Run {
+            automaton,
+            accept,
+            ..
+        } => {
+            let states = checked.automata()[*automaton as usize].machine().states;
+            ElementSet::of(alloc, states, accept)
         }
         _ => ElementSet::of(alloc, 0, &[]),
     }

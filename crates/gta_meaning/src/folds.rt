@@ -8,7 +8,7 @@ ghost use Rattle.gta_checked.specs.Within.{IsPickWithin};
 ghost use Rattle.gta_checked.specs.PlainRows.{plain_rows};
 ghost use Rattle.gta_meaning.specs.Folds as folds;
 
-use crate::values::holds;
+use crate::picks::first_pick;
 use gta_checked::{Pick, Rows};
 use monoid_kit::{Monoid, TableMonoid};
 use shape_gen::Mark;
@@ -20,12 +20,7 @@ pub fn picked(rows: &Rows, unit: u32, picks: &[Pick], row: u32, label: u32) -> u
     requires row_in_range { row < rows.now.count }
     ensures { result ≡ folds.picked (plain_rows rows.now) unit (map plain_pick picks.now) row label }
 {
-    for pick in picks {
-        if holds(rows, &pick.cond, row, label) {
-            return pick.element;
-        }
-    }
-    unit
+    first_pick(rows, picks, row, label).unwrap_or(unit)
 }
 
 /// The product in a table, from left to right and beginning with its unit, of the elements that the marks pick.

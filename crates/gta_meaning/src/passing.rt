@@ -2,17 +2,19 @@
 
 ghost use Rattle.std.specs.Prelude.{◌≡◌, ◌<◌, All, length, map};
 ghost use Rattle.gta_checked.specs.Plain.{plain_pick, plain_test};
-ghost use Rattle.gta_checked.specs.Tables.{table_at};
+ghost use Rattle.gta_checked.specs.Tables.{automaton_at, table_at};
 ghost use Rattle.gta_checked.specs.Within.{IsCheckWithin, IsPickWithin, IsTestWithin, table_size};
 ghost use Rattle.gta_checked.specs.PlainRows.{plain_rows};
 ghost use Rattle.gta_meaning.specs.InRange.{HasColumnsOf, IsInRangeOf};
 ghost use Rattle.gta_meaning.specs.Elements.{AreAccepted, IsAccepted};
 ghost use Rattle.gta_meaning.specs.Folds.{folded};
+ghost use Rattle.gta_meaning.specs.Runs.{state_reached};
 ghost use Rattle.gta_meaning.specs.Tests as tests;
 
 use crate::candidate::Candidate;
 use crate::elements::ElementSet;
 use crate::folds::folded;
+use crate::runs::state_reached;
 use crate::totals::weight_of;
 use crate::values::compares;
 use crate::verdicts::{Outcomes, verdict};
@@ -65,7 +67,7 @@ fn passes_test(checked: &Checked, rows: &Rows, candidate: &Candidate, test: &Tes
     requires columns { HasColumnsOf checked.now (plain_rows rows.now) }
     requires in_range { IsInRangeOf checked.now (plain_rows rows.now) candidate.now.marks.items }
     requires within { IsTestWithin (length checked.now.columns) (length checked.now.labels)
-        (length checked.now.measures) checked.now.tables (plain_test test.now) }
+        (length checked.now.measures) checked.now.tables checked.now.automata (plain_test test.now) }
     ensures { result
         ≡ tests.passes_test checked.now (plain_rows rows.now) candidate.now.marks.items (plain_test test.now) }
 {
@@ -79,6 +81,11 @@ fn passes_test(checked: &Checked, rows: &Rows, candidate: &Candidate, test: &Tes
             picks,
             accept,
         } => accept.contains(&fold_product(checked, rows, candidate, *table, picks)),
+        Test::Run {
+            automaton,
+            picks,
+            accept,
+        } => accept.contains(&run_state(checked, rows, candidate, *automaton, picks)),
     }
 }
 
@@ -152,7 +159,7 @@ fn passes_test_by(
     requires accepted { IsAccepted (plain_test test.now) accepted.now }
     requires in_range { IsInRangeOf checked.now (plain_rows rows.now) candidate.now.marks.items }
     requires within { IsTestWithin (length checked.now.columns) (length checked.now.labels)
-        (length checked.now.measures) checked.now.tables (plain_test test.now) }
+        (length checked.now.measures) checked.now.tables checked.now.automata (plain_test test.now) }
     ensures { result
         ≡ tests.passes_test checked.now (plain_rows rows.now) candidate.now.marks.items (plain_test test.now) }
 {
@@ -160,6 +167,11 @@ fn passes_test_by(
         Test::Fold { table, picks, .. } => {
             accepted.contains(fold_product(checked, rows, candidate, *table, picks))
         }
+        Test::Run {
+            automaton,
+            picks,
+            ..
+        } => accepted.contains(run_state(checked, rows, candidate, *automaton, picks)),
         _ => passes_test(checked, rows, candidate, test),
     }
 }
@@ -182,6 +194,29 @@ fn fold_product(
     folded(
         rows,
         &checked.tables()[table as usize].monoid,
+        picks,
+        &candidate.marks,
+    )
+}
+
+fn run_state(
+    checked: &Checked,
+    rows: &Rows,
+    candidate: &Candidate,
+    automaton: u32,
+    picks: &[Pick],
+) -> u32
+    requires columns { HasColumnsOf checked.now (plain_rows rows.now) }
+    requires in_range { IsInRangeOf checked.now (plain_rows rows.now) candidate.now.marks.items }
+    requires declared { automaton < length checked.now.automata }
+    requires within { All (IsPickWithin (length checked.now.columns) (length checked.now.labels)
+        (automaton_at checked.now.automata automaton).letters) (map plain_pick picks.now) }
+    ensures { result ≡ state_reached (plain_rows rows.now) (automaton_at checked.now.automata automaton)
+        (map plain_pick picks.now) candidate.now.marks.items }
+{
+    state_reached(
+        rows,
+        checked.automata()[automaton as usize].machine(),
         picks,
         &candidate.marks,
     )

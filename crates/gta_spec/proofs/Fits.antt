@@ -1,6 +1,6 @@
 -- What a line of well spelled symbols says is well formed: a lemma for each rule, with a line for each alternative.
 use Rattle.std.proofs.Common.{◌≡◌, ℕ, zero, suc, ◌≤◌, Bool, List, length, refl, arith}
-use Rattle.std.specs.Prelude.{ℤ, pos, neg_ℤ, nat_abs}
+use Rattle.std.specs.Prelude.{ℤ, pos, neg_ℤ, nat_abs, codes}
 use Rattle.gta_spec.specs.declared.parts.ColumnItem.{ColumnItem}
 use Rattle.gta_spec.specs.declared.parts.TermPart.{TermPart}
 use Rattle.gta_spec.specs.declared.parts.AtomPart.{AtomPart}
@@ -17,7 +17,8 @@ use Rattle.gta_spec.specs.WellFormed.{FitsPick, FitsCheck, FitsTest, FitsGoal, F
 use Rattle.gta_spec.specs.declared.parts.RankPart.{RankPart}
 use Rattle.gta_spec.specs.Grammar.{some, IsFirstRank, IsNextRank, IsRanks}
 use Rattle.gta_spec.specs.WellFormed.{FitsRank, FitRanks}
-use Rattle.gta_spec.proofs.Goods.{Good, first_good, after, digits_good, text_good, listed_fits, named, name_fits}
+use Rattle.gta_spec.proofs.Goods.{Good, first_good, from_second, from_third, after, digits_good, text_good, listed_fits}
+use Rattle.gta_spec.proofs.Goods.{named, name_fits}
 use Rattle.gta_spec.proofs.Said.{keep_fits}
 
 abs_neg : (n : ℕ) → nat_abs (neg_ℤ (pos n)) ≡ n
@@ -114,6 +115,14 @@ module _ {version : ℕ} where
       let picks = listed_fits (λ x ts a d g. pick_fits d g) (λ x ts a d g. next_pick_fits d g) p
       (after v (after n.front (after w good))) in
       (named n (after w good), picks.0, (names_fit e (after u picks.1)).0)
+  test_fits (IsTest.run w n v p u e) good =
+      let picks = listed_fits (λ x ts a d g. pick_fits d g) (λ x ts a d g. next_pick_fits d g) p
+      (after v (after n.front (after w good))) in (
+        from_third version (codes "run") refl refl (first_good w good).0,
+        named n (after w good),
+        picks.0,
+        (names_fit e (after u picks.1)).0,
+      )
 
   end_fits : {x : Bool} {ts rest : List Symbol} → IsEnd x ts rest → Good version ts → Good version rest
   end_fits (IsEnd.greatest w) good = after w good
@@ -132,7 +141,8 @@ module _ {version : ℕ} where
   ranks_later : {keys : List RankPart} {ts rest : List Symbol} → Listed IsFirstRank IsNextRank keys ts rest
       → 2 ≤ length keys → Good version ts → 2 ≤ version
   ranks_later (listed r none) several good = absurd (omega (arith, several))
-  ranks_later (listed r (some (behind w q) ms)) several good = (first_good w (first_rank_fits r good).1).0
+  ranks_later (listed r (some (behind w q) ms)) several good =
+      from_second version (codes "then") (first_good w (first_rank_fits r good).1).0
 
   ranks_fit : {keys : List RankPart} {ts rest : List Symbol} → IsRanks keys ts rest → Good version ts
       → FitRanks version keys
@@ -169,6 +179,21 @@ module _ {version : ℕ} where
     (names_fit d (after v (after m.front (after u (after n.front (after w good)))))).0,
   )
   line_fits (IsLine.times w n m s d) good = (
+    named n (after w good),
+    named m (after n.front (after w good)),
+    (names_fit d (after s (after m.front (after n.front (after w good))))).0,
+  )
+  line_fits (IsLine.automaton w n v p u s l q) good =
+      let states = names_fit p (after v (after n.front (after w good))) in
+      let letters = after l (after s.front (after u states.1)) in (
+        from_third version (codes "automaton") refl refl (first_good w good).0,
+        named n (after w good),
+        states.0,
+        named s (after u states.1),
+        (names_fit q letters).0,
+      )
+  line_fits (IsLine.step w n m s d) good = (
+    from_third version (codes "step") refl refl (first_good w good).0,
     named n (after w good),
     named m (after n.front (after w good)),
     (names_fit d (after s (after m.front (after n.front (after w good))))).0,

@@ -10,7 +10,7 @@ use Rattle.gta_spec.specs.Symbols.{Symbol}
 use Rattle.gta_spec.specs.Grammar.{Expr, IsWord, IsLater, IsSign, IsName, IsConj, IsExpr, IsLitOver, IsLit, IsKeep}
 use Rattle.gta_spec.specs.Grammar.{names_among, Many, none, some, listed, Behind, behind}
 use Rattle.gta_spec.specs.WellFormed.{FitsName, EachFits, FitsKeep}
-use Rattle.gta_spec.proofs.Goods.{Good, first_good, after, named}
+use Rattle.gta_spec.proofs.Goods.{Good, first_good, from_second, after, named}
 
 -- what the symbols of an expression say of it at its place
 pub record Said (version : ℕ) (place : Place) (n : ℕ) (x : Expr) (ts rest : List Symbol) : Type 0 where
@@ -156,7 +156,7 @@ module _ {version : ℕ} where
   keep_fits {x = x} {a = a} {rest = rest} w k good =
       let said = expr_says (lit_says NESTING_LIMIT) (after w good) k.expression in
       record {
-        later = (first_good w good).0;
+        later = from_second _ _ (first_good w good).0;
         names = said.names;
         few = omega (arith, said.counted, k.few);
         flat = said.flat;

@@ -3,7 +3,7 @@ use Rattle.std.proofs.Common.{◌≡◌, ℕ, zero, suc, ◌+◌, ◌-◌, ◌�
 use Rattle.std.proofs.Common.{◌++◌, length, take, drop, map, refl, sym, ap, subst, ◌∙◌, arith, one-add, length-drop}
 use Rattle.std.proofs.lemmas.Bool.Decides.{nat_tests}
 use Rattle.std.proofs.lemmas.List.{take-take, length-take}
-use Rattle.std.specs.Prelude.{Option, Some, None, Result, nat_eq, ◌==◌, nat_lt, nat_le, codes}
+use Rattle.std.specs.Prelude.{Option, Some, None, Result, nat_eq, ◌==◌, nat_lt, codes}
 use Rattle.std.specs.Str.{bytes_eq}
 use Rattle.std.specs.List.{list_all, list_any, prefix_len}
 use Rattle.gta_text.specs.declared.token.TokenKind.{TokenKind}
@@ -43,7 +43,7 @@ symbols_at version line front back source place is at =
 
 abbrev TextSymbol : ℕ → Symbol → Type 0
 TextSymbol version (Word x) = is_later version x ≡ false
-TextSymbol version (Later x) = 2 ≤ version
+TextSymbol version (Later x) = is_later version x ≡ true
 TextSymbol version (Digits n) = Unit {0}
 TextSymbol version (Text x) = list_all is_text_byte x ≡ true
 TextSymbol version (Sign s) = Unit {0}
@@ -53,14 +53,8 @@ abbrev AllTexts : ℕ → List Symbol → Type 0
 AllTexts version [] = Unit {0}
 AllTexts version (t ∷ ts) = TextSymbol version t × AllTexts version ts
 
--- a word comes later only in a version that reserves it
-second : (version : ℕ) (among : Bool) → (cond among (nat_le 2 version) false) ≡ true → 2 ≤ version
-second version true e = grind (arith, nat_tests)
-second version false e = absurd cc
-
 word_good : (version : ℕ) (x : List ℕ) → TextSymbol version (word_as version x)
-unfolding is_later
-word_good version x = pick (TextSymbol version) (is_later version x) (λ e. second version _ e) (λ e. e)
+word_good version x = pick (TextSymbol version) (is_later version x) (λ e. e) (λ e. e)
 
 prefix_all : (p : ℕ → Bool) (bs : List ℕ) → list_all p (take (prefix_len p bs) bs) ≡ true
 prefix_all p [] = refl
@@ -172,7 +166,8 @@ IsNamed (Some version) = is_version version ≡ true
 named_is_version : (digits : List ℕ) → IsNamed (version_named digits)
 named_is_version digits =
     pick IsNamed (bytes_eq digits (codes "1")) (λ e. refl) (λ e.
-    pick IsNamed (bytes_eq digits (codes "2")) (λ e. refl) (λ e. tt))
+    pick IsNamed (bytes_eq digits (codes "2")) (λ e. refl) (λ e.
+    pick IsNamed (bytes_eq digits (codes "3")) (λ e. refl) (λ e. tt)))
 
 version_is : (source : List ℕ) (tokens : List Token) → IsNamed (version_in source tokens)
 version_is source [] = tt

@@ -17,8 +17,8 @@ use Rattle.gta_spec.specs.declared.parts.GoalPart.{GoalPart}
 use Rattle.gta_spec.specs.declared.parts.GoalPart.TheVariants.{Count, Any, Max, Min, Best, Ranked}
 use Rattle.gta_spec.specs.declared.parts.RankPart.{RankPart}
 use Rattle.gta_spec.specs.declared.limits.TheConstants.{KEPT_NAME_LIMIT, NESTING_LIMIT, RANK_LIMIT}
-use Rattle.gta_spec.specs.Parts.{CaseTree, PickTree, TestTree, Sum, Length, Fold, KindTree, Columns, Labels, Measure}
-use Rattle.gta_spec.specs.Parts.{Table, Times, Generate, Test, Named, Keep, Aggregate}
+use Rattle.gta_spec.specs.Parts.{CaseTree, PickTree, TestTree, Sum, Length, Fold, Run, KindTree, Columns, Labels}
+use Rattle.gta_spec.specs.Parts.{Measure, Table, Times, Automaton, Step, Generate, Test, Named, Keep, Aggregate}
 use Rattle.gta_spec.specs.Keep as keeps
 use Rattle.gta_spec.specs.Keep.{KeepTree, all_of, any_of, one_if}
 use Rattle.gta_spec.specs.Symbols.{Symbol, Word, Later, Digits, Text, Sign, Stray}
@@ -171,7 +171,7 @@ pub data IsCheck : Check → List Symbol → List Symbol → Type 0 where
       → IsSign (codes "=") b c → IsDigits r c rest
       → IsCheck (Mod m r) ts rest
 
--- "sum" NAME check | "length" check | "fold" NAME "by" picks "accept" NAME { NAME }
+-- "sum" NAME check | "length" check | ( "fold" | "run" ) NAME "by" picks "accept" NAME { NAME }
 pub data IsTest : TestTree → List Symbol → List Symbol → Type 0 where
   sum : {x : List ℕ} {k : Check} {ts a b rest : List Symbol} → IsWord (codes "sum") ts a
       → IsName x a b → IsCheck k b rest → IsTest (Sum x k) ts rest
@@ -181,6 +181,10 @@ pub data IsTest : TestTree → List Symbol → List Symbol → Type 0 where
       → IsWord (codes "fold") ts a → IsName x a b → IsWord (codes "by") b c → IsPicks ps c d
       → IsWord (codes "accept") d e → IsNames es e rest
       → IsTest (Fold x ps es) ts rest
+  run : {x : List ℕ} {ps : List PickTree} {es : List (List ℕ)} {ts a b c d e rest : List Symbol}
+      → IsLater (codes "run") ts a → IsName x a b → IsWord (codes "by") b c → IsPicks ps c d
+      → IsWord (codes "accept") d e → IsNames es e rest
+      → IsTest (Run x ps es) ts rest
 
 -- "sublists" | "segments" | "prefixes" | "suffixes" | "assign"
 pub data IsShape : Shape → List Symbol → List Symbol → Type 0 where
@@ -295,6 +299,14 @@ pub data IsLine (version : ℕ) : KindTree → List Symbol → List Symbol → T
       → IsWord (codes "times") ts a → IsName x a b → IsName y b c → IsSign (codes "=") c d
       → IsNames ps d rest
       → IsLine version (Times (record { table = x; element = y; products = ps })) ts rest
+  automaton : {x s : List ℕ} {ps ls : List (List ℕ)} {ts a b c d e f g rest : List Symbol}
+      → IsLater (codes "automaton") ts a → IsName x a b → IsLater (codes "states") b c → IsNames ps c d
+      → IsLater (codes "start") d e → IsName s e f → IsLater (codes "letters") f g → IsNames ls g rest
+      → IsLine version (Automaton (record { name = x; states = ps; start = s; letters = ls })) ts rest
+  step : {x y : List ℕ} {ps : List (List ℕ)} {ts a b c d rest : List Symbol}
+      → IsLater (codes "step") ts a → IsName x a b → IsName y b c → IsSign (codes "=") c d
+      → IsNames ps d rest
+      → IsLine version (Step (record { automaton = x; letter = y; targets = ps })) ts rest
   generate : {s : Shape} {ts a rest : List Symbol} → IsWord (codes "generate") ts a
       → IsShape s a rest → IsLine version (Generate s) ts rest
   test : {t : TestTree} {ts a rest : List Symbol} → IsWord (codes "test") ts a → IsTest t a rest

@@ -12,6 +12,8 @@ use Rattle.gta_spec.specs.declared.parts.CasePart.{CasePart}
 use Rattle.gta_spec.specs.declared.parts.MeasurePart.{MeasurePart}
 use Rattle.gta_spec.specs.declared.parts.TablePart.{TablePart}
 use Rattle.gta_spec.specs.declared.parts.TimesPart.{TimesPart}
+use Rattle.gta_spec.specs.declared.parts.AutomatonPart.{AutomatonPart}
+use Rattle.gta_spec.specs.declared.parts.StepPart.{StepPart}
 use Rattle.gta_spec.specs.declared.parts.PickPart.{PickPart}
 use Rattle.gta_spec.specs.declared.parts.TestPart.{TestPart}
 use Rattle.gta_spec.specs.declared.parts.TestPart.TheVariants as tests
@@ -40,6 +42,17 @@ pub record TimesTree : Type 0 where
   pub element : List ℕ
   pub products : List (List ℕ)
 
+pub record AutomatonTree : Type 0 where
+  pub name : List ℕ
+  pub states : List (List ℕ)
+  pub start : List ℕ
+  pub letters : List (List ℕ)
+
+pub record StepTree : Type 0 where
+  pub automaton : List ℕ
+  pub letter : List ℕ
+  pub targets : List (List ℕ)
+
 pub record PickTree : Type 0 where
   pub element : List ℕ
   pub cond : List AtomPart
@@ -48,6 +61,7 @@ pub data TestTree : Type 0 where
   Sum : List ℕ → Check → TestTree
   Length : Check → TestTree
   Fold : List ℕ → List PickTree → List (List ℕ) → TestTree
+  Run : List ℕ → List PickTree → List (List ℕ) → TestTree
 
 pub data KindTree : Type 0 where
   Columns : List ColumnItem → KindTree
@@ -55,6 +69,8 @@ pub data KindTree : Type 0 where
   Measure : MeasureTree → KindTree
   Table : TableTree → KindTree
   Times : TimesTree → KindTree
+  Automaton : AutomatonTree → KindTree
+  Step : StepTree → KindTree
   Generate : Shape → KindTree
   Test : TestTree → KindTree
   Named : List ℕ → TestTree → KindTree
@@ -82,6 +98,13 @@ table_tree part = record { name = part.name; unit = part.unit; elements = part.e
 abbrev pub times_tree : TimesPart → TimesTree
 times_tree part = record { table = part.table; element = part.element; products = part.products.items }
 
+abbrev pub automaton_tree : AutomatonPart → AutomatonTree
+automaton_tree part =
+    record { name = part.name; states = part.states.items; start = part.start; letters = part.letters.items }
+
+abbrev pub step_tree : StepPart → StepTree
+step_tree part = record { automaton = part.automaton; letter = part.letter; targets = part.targets.items }
+
 abbrev pub pick_tree : PickPart → PickTree
 pick_tree part = record { element = part.element; cond = part.cond.items }
 
@@ -89,6 +112,7 @@ abbrev pub test_tree : TestPart → TestTree
 test_tree (tests.Sum name check) = Sum name check
 test_tree (tests.Length check) = Length check
 test_tree (tests.Fold table picks accept) = Fold table (map pick_tree picks.items) accept.items
+test_tree (tests.Run automaton picks accept) = Run automaton (map pick_tree picks.items) accept.items
 
 abbrev pub keep_tree : KeepPart → KeepTree (List ℕ)
 keep_tree (keeps.Test name) = keep.Test name
@@ -102,6 +126,8 @@ kind_tree (kinds.Labels names) = Labels names.items
 kind_tree (kinds.Measure part) = Measure (measure_tree part)
 kind_tree (kinds.Table part) = Table (table_tree part)
 kind_tree (kinds.Times part) = Times (times_tree part)
+kind_tree (kinds.Automaton part) = Automaton (automaton_tree part)
+kind_tree (kinds.Step part) = Step (step_tree part)
 kind_tree (kinds.Generate shape) = Generate shape
 kind_tree (kinds.Test part) = Test (test_tree part)
 kind_tree (kinds.Named name part) = Named name (test_tree part)

@@ -14,8 +14,9 @@ use Rattle.gta_spec.specs.declared.parts.GoalPart.{GoalPart}
 use Rattle.gta_spec.specs.declared.parts.GoalPart.TheVariants.{Count, Any, Max, Min, Best, Ranked}
 use Rattle.gta_spec.specs.declared.parts.RankPart.{RankPart}
 use Rattle.gta_spec.specs.declared.limits.TheConstants.{KEPT_NAME_LIMIT, NESTING_LIMIT, RANK_LIMIT}
-use Rattle.gta_spec.specs.Parts.{CaseTree, PickTree, TestTree, Sum, Length, Fold, KindTree, Columns, Labels, Measure}
-use Rattle.gta_spec.specs.Parts.{Table, Times, Generate, Test, Named, Keep, Aggregate, PartTree, SpecTree}
+use Rattle.gta_spec.specs.Parts.{CaseTree, PickTree, TestTree, Sum, Length, Fold, Run, KindTree, Columns, Labels}
+use Rattle.gta_spec.specs.Parts.{Measure, Table, Times, Automaton, Step, Generate, Test, Named, Keep, Aggregate}
+use Rattle.gta_spec.specs.Parts.{PartTree, SpecTree}
 use Rattle.gta_spec.specs.Versions.{is_version, is_later}
 use Rattle.gta_spec.specs.Keep.{KeepTree, kept_tests, nesting, Whole}
 
@@ -77,6 +78,8 @@ FitsTest version (Sum x check) = FitsName version x × FitsCheck check
 FitsTest version (Length check) = FitsCheck check
 FitsTest version (Fold table picks accept) =
     FitsName version table × SomeFit (FitsPick version) picks × SomeFit (FitsName version) accept
+FitsTest version (Run automaton picks accept) =
+    (3 ≤ version) × FitsName version automaton × SomeFit (FitsPick version) picks × SomeFit (FitsName version) accept
 
 -- the expression of a line: so many names, and so many `not` and parentheses of its canonical text around one
 pub record FitsKeep (version : ℕ) (keep : KeepTree (List ℕ)) : Type 0 where
@@ -111,6 +114,12 @@ FitsKind version (Table part) =
     FitsName version part.name × FitsName version part.unit × SomeFit (FitsName version) part.elements
 FitsKind version (Times part) =
     FitsName version part.table × FitsName version part.element × SomeFit (FitsName version) part.products
+FitsKind version (Automaton part) =
+    (3 ≤ version) × FitsName version part.name × SomeFit (FitsName version) part.states
+    × FitsName version part.start × SomeFit (FitsName version) part.letters
+FitsKind version (Step part) =
+    (3 ≤ version) × FitsName version part.automaton × FitsName version part.letter
+    × SomeFit (FitsName version) part.targets
 FitsKind version (Generate shape) = Unit {0}
 FitsKind version (Test test) = FitsTest version test
 FitsKind version (Named name test) = (2 ≤ version) × FitsName version name × FitsTest version test

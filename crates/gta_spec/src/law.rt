@@ -29,4 +29,7 @@ pub fn part_limits()
     ensures kept_names { limits.KEPT_NAME_LIMIT ≡ 64 }
     ensures nesting { limits.NESTING_LIMIT ≡ 32 }
     ensures ranks { limits.RANK_LIMIT ≡ 3 }
+    ensures automata { limits.AUTOMATON_LIMIT ≡ 8 }
+    ensures states { limits.STATE_LIMIT ≡ 16 }
+    ensures letters { limits.LETTER_LIMIT ≡ 16 }
 {}

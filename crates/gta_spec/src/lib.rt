@@ -10,12 +10,12 @@ mod parts;
 
 pub use law::{declaration_limits, part_limits};
 pub use limits::{
-    ATOM_LIMIT, BOUND_LIMIT, CASE_LIMIT, COLUMN_LIMIT, ELEMENT_LIMIT, FACTOR_LIMIT,
-    FIRST_ROW_LIMIT, HEADER_LIMIT, KEEP_LIMIT, KEPT_NAME_LIMIT, LABEL_LIMIT, MEASURE_LIMIT,
-    MODULUS_LIMIT, NAME_LIMIT, NESTING_LIMIT, RANK_LIMIT, ROW_LIMIT, TABLE_LIMIT, TERM_LIMIT,
-    TEST_LIMIT, row_limit,
+    ATOM_LIMIT, AUTOMATON_LIMIT, BOUND_LIMIT, CASE_LIMIT, COLUMN_LIMIT, ELEMENT_LIMIT,
+    FACTOR_LIMIT, FIRST_ROW_LIMIT, HEADER_LIMIT, KEEP_LIMIT, KEPT_NAME_LIMIT, LABEL_LIMIT,
+    LETTER_LIMIT, MEASURE_LIMIT, MODULUS_LIMIT, NAME_LIMIT, NESTING_LIMIT, RANK_LIMIT, ROW_LIMIT,
+    STATE_LIMIT, TABLE_LIMIT, TERM_LIMIT, TEST_LIMIT, row_limit,
 };
 pub use parts::{
-    AtomPart, CasePart, Check, Cmp, ColumnItem, GoalPart, KeepPart, MeasurePart, Part, PartKind,
-    PickPart, RankPart, Spec, TablePart, TermPart, TestPart, TimesPart,
+    AtomPart, AutomatonPart, CasePart, Check, Cmp, ColumnItem, GoalPart, KeepPart, MeasurePart,
+    Part, PartKind, PickPart, RankPart, Spec, StepPart, TablePart, TermPart, TestPart, TimesPart,
 };

@@ -25,7 +25,7 @@ pub const TEST_LIMIT: usize = 8;
 /// The most elements of a table.
 pub const ELEMENT_LIMIT: usize = 64;
 
-/// The most cases of a measure, and the most picks of a fold.
+/// The most cases of a measure, and the most picks of a fold or run.
 pub const CASE_LIMIT: usize = 16;
 
 /// The most terms of a form.
@@ -54,6 +54,15 @@ pub const NESTING_LIMIT: usize = 32;
 
 /// The most totals of an aggregate.
 pub const RANK_LIMIT: usize = 3;
+
+/// The most lines `automaton`.
+pub const AUTOMATON_LIMIT: usize = 8;
+
+/// The most states of an automaton.
+pub const STATE_LIMIT: usize = 16;
+
+/// The most letters of an automaton.
+pub const LETTER_LIMIT: usize = 16;
 
 /// The most rows of a table in version 1.
 pub const FIRST_ROW_LIMIT: u32 = 100000;

@@ -25,6 +25,10 @@ pub enum PartKind {
     Measure(MeasurePart),
     Table(TablePart),
     Times(TimesPart),
+    /// From version 3 on.
+    Automaton(AutomatonPart),
+    /// From version 3 on.
+    Step(StepPart),
     Generate(Shape),
     Test(TestPart),
     /// A test that has a name. From version 2 on.
@@ -90,6 +94,23 @@ pub struct TimesPart {
     pub products: Vec<Name>,
 }
 
+/// The states of an automaton, the one in which it starts, and its letters.
+#[derive(Debug, Drop)]
+pub struct AutomatonPart {
+    pub name: Name,
+    pub states: Vec<Name>,
+    pub start: Name,
+    pub letters: Vec<Name>,
+}
+
+/// The states to which a letter leads from each state of its automaton, in the automaton's order.
+#[derive(Debug, Drop)]
+pub struct StepPart {
+    pub automaton: Name,
+    pub letter: Name,
+    pub targets: Vec<Name>,
+}
+
 #[derive(Debug, Drop)]
 pub enum TestPart {
     Sum {
@@ -104,6 +125,12 @@ pub enum TestPart {
         picks: Vec<PickPart>,
         accept: Vec<Name>,
     },
+    /// The picks are letters, and states are accepted. From version 3 on.
+    Run {
+        automaton: Name,
+        picks: Vec<PickPart>,
+        accept: Vec<Name>,
+    },
 }
 
 #[derive(Clone, Copy, Debug, PartialEq, Eq)]
@@ -112,7 +139,7 @@ pub enum Check {
     Mod { modulus: u64, residue: u64 },
 }
 
-/// An element, and the atoms of its condition. No atoms: no condition was written.
+/// An element or a letter, and the atoms of its condition. No atoms: no condition was written.
 #[derive(Debug, Drop)]
 pub struct PickPart {
     pub element: Name,

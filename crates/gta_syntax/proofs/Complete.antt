@@ -1,5 +1,5 @@
 -- What is derived is read: a lemma for each rule, with a line for each alternative.
-use Rattle.std.proofs.Common.{◌≡◌, ℕ, ◌≤◌, ◌<◌, Bool, true, false, List, [], length, refl, ap, arith}
+use Rattle.std.proofs.Common.{◌≡◌, ℕ, ◌≤◌, ◌<◌, Bool, true, false, List, [], length, refl, ap, ◌∙◌, arith}
 use Rattle.std.specs.Prelude.{ℤ, nat_le, Some, None, codes}
 use Rattle.std.proofs.lemmas.Bool.Decides.{nat_tests}
 use Rattle.shape_gen.specs.declared.shape.Shape.{Shape}
@@ -10,20 +10,21 @@ use Rattle.gta_spec.specs.declared.parts.AtomPart.{AtomPart}
 use Rattle.gta_spec.specs.declared.parts.Cmp.{Cmp}
 use Rattle.gta_spec.specs.declared.parts.Check.{Check}
 use Rattle.gta_spec.specs.Symbols.{Symbol}
-use Rattle.gta_spec.specs.Parts.{CaseTree, PickTree, TestTree, KindTree, Test, Named}
-use Rattle.gta_spec.specs.Grammar.{IsSign, IsName, IsNames, IsNum, IsItem, IsCmp, IsAtom}
+use Rattle.gta_spec.specs.Parts.{CaseTree, PickTree, TestTree, KindTree, Automaton, Step, Test, Named}
+use Rattle.gta_spec.specs.Grammar.{IsWord, IsLater, IsSign, IsName, IsNames, IsNum, IsItem, IsCmp, IsAtom}
 use Rattle.gta_spec.specs.Grammar.{IsAnd, IsCond, IsIf, IsTerm, IsFirstTerm, IsNextTerm, IsForm, IsCase, IsNextCase}
 use Rattle.gta_spec.specs.Grammar.{IsCases, IsPick, IsNextPick, IsPicks, IsCheck, IsTest, IsShape}
 use Rattle.gta_spec.specs.Grammar.{IsLine, IsPart, Listed, behind}
 use Rattle.gta_syntax.specs.Rules.{word_at, sign_at, name_at, names_at, num_at, item_at, cmp_at}
 use Rattle.gta_syntax.specs.Rules.{atom_at, and_at, cond_at, if_at, term_at, first_term_at, next_term_at, form_at}
 use Rattle.gta_syntax.specs.Rules.{case_at, next_case_at, cases_at, pick_at, next_pick_at, picks_at, check_at}
-use Rattle.gta_syntax.specs.Rules.{fold_at, test_at, shape_at, measure_at, table_at, named_at, test_line_at}
-use Rattle.gta_syntax.specs.Rules.{times_at, line_at, part_at, begins_name, begins_word, begins_sign}
-use Rattle.gta_syntax.specs.Rules.{begins_next_term, list_at}
+use Rattle.gta_syntax.specs.Rules.{by_at, fold_at, run_at, test_at, shape_at, measure_at, table_at, times_at}
+use Rattle.gta_syntax.specs.Rules.{automaton_at, step_at, named_at, test_line_at, later_line_at, line_at, part_at}
+use Rattle.gta_syntax.specs.Rules.{begins_name, begins_word, begins_sign, begins_next_term, list_at}
 use Rattle.gta_syntax.proofs.Again.{IsReadable, list_again, list_within}
 use Rattle.gta_syntax.proofs.CompleteSymbols.{word_again, later_again, sign_again, digits_again, text_again, name_again}
-use Rattle.gta_syntax.proofs.CompleteSymbols.{no_other_word, no_other_sign, no_word_at_sign, no_word_at_later}
+use Rattle.gta_syntax.proofs.CompleteSymbols.{no_other_word, no_other_later, no_other_sign, no_word_at_sign}
+use Rattle.gta_syntax.proofs.CompleteSymbols.{no_word_at_later, no_name_at_later}
 use Rattle.gta_syntax.proofs.CompleteSymbols.{no_later_at_word, no_sign_at_word, no_sign_at_digits, no_sign_at_name}
 use Rattle.gta_syntax.proofs.CompleteSymbols.{no_digits_at_name, no_word_at_name, no_name_at_word, name_shorter}
 use Rattle.gta_syntax.proofs.CompleteSymbols.{no_name_at_end, no_sign_at_end, no_word_at_end, no_later_at_end}
@@ -313,22 +314,40 @@ unfolding check_at
 check_again (IsCheck.compare c z) = rw (no_word_at_cmp (codes "mod") c, cmp_again c, num_again z) refl
 check_again (IsCheck.modulo w d s e) = rw (word_again w, digits_again d, sign_again s, digits_again e) refl
 
+by_again : {ps : List PickTree} {es : List (List ℕ)} {ts a b c rest : List Symbol} → IsWord (codes "by") ts a
+    → IsPicks ps a b → IsWord (codes "accept") b c → IsNames es c rest → begins_name rest ≡ false
+    → by_at ts ≡ Some ((ps, es), rest)
+unfolding by_at
+by_again v p u e off =
+    rw (
+      word_again v,
+      picks_again p (no_sign_at_word (codes ";") u)
+          (record { no_if = no_other_word (codes "if") u refl; no_and = no_other_word (codes "and") u refl }),
+      word_again u,
+      names_again e off,
+    ) refl
+
 test_again : {x : TestTree} {ts rest : List Symbol} → IsTest x ts rest → begins_name rest ≡ false
     → test_at ts ≡ Some (x, rest)
-unfolding test_at fold_at
+unfolding test_at fold_at run_at
 test_again (IsTest.sum w n k) off = rw (word_again w, name_again n, check_again k) refl
 test_again (IsTest.length w k) off = rw (no_other_word (codes "sum") w refl, word_again w, check_again k) refl
 test_again (IsTest.fold w n v p u e) off =
     rw (
       no_other_word (codes "sum") w refl,
       no_other_word (codes "length") w refl,
+      no_later_at_word (codes "run") w,
       word_again w,
       name_again n,
-      word_again v,
-      picks_again p (no_sign_at_word (codes ";") u)
-          (record { no_if = no_other_word (codes "if") u refl; no_and = no_other_word (codes "and") u refl }),
-      word_again u,
-      names_again e off,
+      by_again v p u e off,
+    ) refl
+test_again (IsTest.run w n v p u e) off =
+    rw (
+      no_word_at_later (codes "sum") w,
+      no_word_at_later (codes "length") w,
+      later_again w,
+      name_again n,
+      by_again v p u e off,
     ) refl
 
 -- shapes
@@ -356,6 +375,7 @@ unfolding is_reserved
 no_name_at_test (IsTest.sum w n k) = no_name_at_word w refl
 no_name_at_test (IsTest.length w k) = no_name_at_word w refl
 no_name_at_test (IsTest.fold w n v p u e) = no_name_at_word w refl
+no_name_at_test (IsTest.run w n v p u e) = no_name_at_later w
 
 test_line_again : (version : ℕ) {x : TestTree} {ts : List Symbol} → IsTest x ts []
     → test_line_at version ts ≡ Some (Test x, [])
@@ -369,9 +389,47 @@ named_again {version = version} later n s d =
     let on : nat_le 2 version ≡ true = grind (arith, nat_tests) in
     rw (name_again n, on, sign_again s, test_again d no_name_at_end) refl
 
+-- lines whose first word version 1 doesn't reserve
+
+no_first_word : (version : ℕ) {v : List ℕ} {ts a : List Symbol} → IsLater v ts a → line_at version ts ≡ later_line_at ts
+unfolding line_at
+no_first_word version w =
+    rw (
+      no_word_at_later (codes "columns") w,
+      no_word_at_later (codes "labels") w,
+      no_word_at_later (codes "measure") w,
+      no_word_at_later (codes "table") w,
+      no_word_at_later (codes "times") w,
+      no_word_at_later (codes "generate") w,
+      no_word_at_later (codes "test") w,
+      no_word_at_later (codes "aggregate") w,
+    ) refl
+
+automaton_again : {x s : List ℕ} {ps ls : List (List ℕ)} {ts b c d e f g rest : List Symbol}
+    → IsName x ts b → IsLater (codes "states") b c → IsNames ps c d → IsLater (codes "start") d e → IsName s e f
+    → IsLater (codes "letters") f g → IsNames ls g rest → begins_name rest ≡ false
+    → automaton_at ts ≡ Some (Automaton (record { name = x; states = ps; start = s; letters = ls }), rest)
+unfolding automaton_at
+automaton_again n v p u s l q off =
+    rw (
+      name_again n,
+      later_again v,
+      names_again p (rw (no_name_at_later u) refl),
+      later_again u,
+      name_again s,
+      later_again l,
+      names_again q off,
+    ) refl
+
+step_again : {x y : List ℕ} {ps : List (List ℕ)} {ts b c d rest : List Symbol} → IsName x ts b → IsName y b c
+    → IsSign (codes "=") c d → IsNames ps d rest → begins_name rest ≡ false
+    → step_at ts ≡ Some (Step (record { automaton = x; letter = y; targets = ps }), rest)
+unfolding step_at
+step_again n m s d off = rw (name_again n, name_again m, sign_again s, names_again d off) refl
+
 line_again : {version : ℕ} {x : KindTree} {ts : List Symbol} → IsLine version x ts []
     → line_at version ts ≡ Some (x, [])
-unfolding line_at measure_at table_at times_at
+unfolding line_at later_line_at measure_at table_at times_at
 line_again (IsLine.columns w d) = rw (word_again w, items_again d no_name_at_end (no_sign_at_end (codes "="))) refl
 line_again (IsLine.labels w d) = rw
     (no_other_word (codes "columns") w refl, word_again w, names_again d no_name_at_end) refl
@@ -440,17 +498,19 @@ line_again (IsLine.named later w n s d) =
       word_again w,
       named_again later n s d,
     ) refl
-line_again (IsLine.keep w d) =
-    rw (
-      no_word_at_later (codes "columns") w,
-      no_word_at_later (codes "labels") w,
-      no_word_at_later (codes "measure") w,
-      no_word_at_later (codes "table") w,
-      no_word_at_later (codes "times") w,
-      no_word_at_later (codes "generate") w,
-      no_word_at_later (codes "test") w,
+line_again (IsLine.keep w d) = no_first_word _ w ∙ rw (later_again w, keep_again d) refl
+line_again (IsLine.automaton w n v p u s l q) = no_first_word _ w
+    ∙ rw (
+      no_other_later (codes "keep") w refl,
       later_again w,
-      keep_again d,
+      automaton_again n v p u s l q no_name_at_end,
+    ) refl
+line_again (IsLine.step w n m s d) = no_first_word _ w
+    ∙ rw (
+      no_other_later (codes "keep") w refl,
+      no_other_later (codes "automaton") w refl,
+      later_again w,
+      step_again n m s d no_name_at_end,
     ) refl
 line_again (IsLine.aggregate w d) =
     rw (
@@ -461,7 +521,6 @@ line_again (IsLine.aggregate w d) =
       no_other_word (codes "times") w refl,
       no_other_word (codes "generate") w refl,
       no_other_word (codes "test") w refl,
-      no_later_at_word (codes "keep") w,
       word_again w,
       goal_again d (rw (no_later_at_end (codes "then")) refl),
     ) refl

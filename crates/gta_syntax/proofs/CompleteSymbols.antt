@@ -47,6 +47,15 @@ pub no_later_at_sign : (w : List ℕ) {s : List ℕ} {ts rest : List Symbol} →
 unfolding later_at
 no_later_at_sign w e = rw e refl
 
+pub no_other_later : (w : List ℕ) {v : List ℕ} {ts rest : List Symbol} → IsLater v ts rest → bytes_eq v w ≡ false
+    → later_at w ts ≡ None
+unfolding later_at
+no_other_later w e off = rw (e, off) refl
+
+pub no_name_at_later : {v : List ℕ} {ts rest : List Symbol} → IsLater v ts rest → name_at ts ≡ None
+unfolding name_at
+no_name_at_later e = rw e refl
+
 -- a reserved word
 pub no_name_at_word : {w : List ℕ} {ts rest : List Symbol} → IsWord w ts rest → is_name_text w ≡ false
     → name_at ts ≡ None

@@ -3,16 +3,17 @@ use Rattle.std.proofs.Common.{ℕ, Bool, true, false, List, [], ◌∷◌, arith
 use Rattle.std.specs.Prelude.{nat_le, codes}
 use Rattle.std.proofs.lemmas.Bool.Decides.{nat_tests}
 use Rattle.gta_spec.specs.Symbols.{Symbol}
-use Rattle.gta_spec.specs.Parts.{KindTree}
-use Rattle.gta_spec.specs.Grammar.{IsWord, IsName, IsNames, IsNum, IsItem, IsCmp, IsAtom}
+use Rattle.gta_spec.specs.Parts.{PickTree, Fold, Run, KindTree}
+use Rattle.gta_spec.specs.Grammar.{IsWord, IsLater, IsName, IsNames, IsNum, IsItem, IsCmp, IsAtom}
 use Rattle.gta_spec.specs.Grammar.{IsAnd, IsCond, IsIf, IsTerm, IsFirstTerm, IsNextTerm, IsForm, IsCase, IsNextCase}
 use Rattle.gta_spec.specs.Grammar.{IsCases, IsPick, IsNextPick, IsPicks, IsCheck, IsTest, IsShape}
 use Rattle.gta_spec.specs.Grammar.{IsLine, IsPart, behind}
 use Rattle.gta_syntax.specs.Rules.{names_at, num_at, item_at, cmp_at}
 use Rattle.gta_syntax.specs.Rules.{atom_at, and_at, cond_at, if_at, term_at, first_term_at, next_term_at, form_at}
 use Rattle.gta_syntax.specs.Rules.{case_at, next_case_at, cases_at, pick_at, next_pick_at, picks_at, check_at}
-use Rattle.gta_syntax.specs.Rules.{fold_at, test_at, shape_at, measure_at, table_at}
-use Rattle.gta_syntax.specs.Rules.{times_at, named_at, test_line_at, line_at, part_at, ended_by}
+use Rattle.gta_syntax.specs.Rules.{by_at, fold_at, run_at, test_at, shape_at, measure_at, table_at, times_at}
+use Rattle.gta_syntax.specs.Rules.{automaton_at, step_at, named_at, test_line_at, later_line_at, line_at, part_at}
+use Rattle.gta_syntax.specs.Rules.{ended_by}
 use Rattle.gta_syntax.proofs.Each.{Each, done, nothing, and_then, either, then_is, list_takes}
 use Rattle.gta_syntax.proofs.SoundSymbols.{only_when, word_takes, later_takes, sign_takes, digits_takes, text_takes}
 use Rattle.gta_syntax.proofs.SoundSymbols.{name_takes}
@@ -112,13 +113,36 @@ check_takes ts = either (word_takes (codes "mod") ts)
     (λ b s. and_then (digits_takes b) (λ r e. done (IsCheck.modulo w d s e)))))
     (and_then (cmp_takes ts) (λ c k. and_then (num_takes c.1) (λ z d. done (IsCheck.compare k d))))
 
+-- "by" picks "accept" NAME { NAME }
+data IsBy : List PickTree → List (List ℕ) → List Symbol → List Symbol → Type 0 where
+  by : {ps : List PickTree} {es : List (List ℕ)} {ts a b c rest : List Symbol} → IsWord (codes "by") ts a
+      → IsPicks ps a b → IsWord (codes "accept") b c → IsNames es c rest → IsBy ps es ts rest
+
+by_takes : (ts : List Symbol) → Each (by_at ts) (λ x. IsBy x.0.0 x.0.1 ts x.1)
+unfolding by_at
+by_takes ts = and_then (word_takes (codes "by") ts)
+    (λ a w. and_then (picks_takes a) (λ ps p. and_then (word_takes (codes "accept") ps.1)
+    (λ b v. and_then (names_takes b) (λ es e. done (IsBy.by w p v e)))))
+
+fold_is : {x : List ℕ} {ps : List PickTree} {es : List (List ℕ)} {ts a b rest : List Symbol}
+    → IsWord (codes "fold") ts a → IsName x a b → IsBy ps es b rest → IsTest (Fold x ps es) ts rest
+fold_is f n (IsBy.by w p v e) = IsTest.fold f n w p v e
+
 fold_takes : (ts : List Symbol)
     → Each (fold_at ts) (λ x. (a : List Symbol) → IsWord (codes "fold") a ts → IsTest x.0 a x.1)
 unfolding fold_at
 fold_takes ts = and_then (name_takes ts)
-    (λ x n. and_then (word_takes (codes "by") x.1) (λ a w. and_then (picks_takes a) (λ ps p.
-    and_then (word_takes (codes "accept") ps.1)
-    (λ b v. and_then (names_takes b) (λ es e. done (λ t f. IsTest.fold f n w p v e))))))
+    (λ x n. and_then (by_takes x.1) (λ y d. done (λ a f. fold_is f n d)))
+
+run_is : {x : List ℕ} {ps : List PickTree} {es : List (List ℕ)} {ts a b rest : List Symbol}
+    → IsLater (codes "run") ts a → IsName x a b → IsBy ps es b rest → IsTest (Run x ps es) ts rest
+run_is r n (IsBy.by w p v e) = IsTest.run r n w p v e
+
+run_takes : (ts : List Symbol)
+    → Each (run_at ts) (λ x. (a : List Symbol) → IsLater (codes "run") a ts → IsTest x.0 a x.1)
+unfolding run_at
+run_takes ts = and_then (name_takes ts)
+    (λ x n. and_then (by_takes x.1) (λ y d. done (λ a r. run_is r n d)))
 
 test_takes : (ts : List Symbol) → Each (test_at ts) (λ x. IsTest x.0 ts x.1)
 unfolding test_at
@@ -126,7 +150,8 @@ test_takes ts = either (word_takes (codes "sum") ts)
     (λ a w. and_then (name_takes a) (λ x n. and_then (check_takes x.1) (λ k d. done (IsTest.sum w n d))))
     (either (word_takes (codes "length") ts)
     (λ a w. and_then (check_takes a) (λ k d. done (IsTest.length w d)))
-    (and_then (word_takes (codes "fold") ts) (λ a w. then_is (fold_takes a) (λ x d. d ts w))))
+    (either (later_takes (codes "run") ts) (λ a w. then_is (run_takes a) (λ x d. d ts w))
+    (and_then (word_takes (codes "fold") ts) (λ a w. then_is (fold_takes a) (λ x d. d ts w)))))
 
 shape_takes : (ts : List Symbol) → Each (shape_at ts) (λ x. IsShape x.0 ts x.1)
 unfolding shape_at
@@ -158,6 +183,22 @@ times_takes version ts = and_then (name_takes ts)
     (λ x n. and_then (name_takes x.1) (λ y m. and_then (sign_takes (codes "=") y.1) (λ a s.
     and_then (names_takes a) (λ ps p. done (λ t w. IsLine.times w n m s p)))))
 
+automaton_takes : (version : ℕ) (ts : List Symbol) → Each (automaton_at ts)
+    (λ x. (a : List Symbol) → IsLater (codes "automaton") a ts → IsLine version x.0 a x.1)
+unfolding automaton_at
+automaton_takes version ts = and_then (name_takes ts)
+    (λ x n. and_then (later_takes (codes "states") x.1) (λ a v. and_then (names_takes a) (λ ps p.
+    and_then (later_takes (codes "start") ps.1) (λ b u. and_then (name_takes b) (λ s m.
+    and_then (later_takes (codes "letters") s.1)
+    (λ c l. and_then (names_takes c) (λ ls q. done (λ t w. IsLine.automaton w n v p u m l q))))))))
+
+step_takes : (version : ℕ) (ts : List Symbol)
+    → Each (step_at ts) (λ x. (a : List Symbol) → IsLater (codes "step") a ts → IsLine version x.0 a x.1)
+unfolding step_at
+step_takes version ts = and_then (name_takes ts)
+    (λ x n. and_then (name_takes x.1) (λ y m. and_then (sign_takes (codes "=") y.1) (λ a s.
+    and_then (names_takes a) (λ ps p. done (λ t w. IsLine.step w n m s p)))))
+
 named_takes : (version : ℕ) (x : List ℕ) (ts : List Symbol) → Each (named_at version x ts)
     (λ y. (a b : List Symbol) → IsWord (codes "test") a b → IsName x b ts → IsLine version y.0 a y.1)
 unfolding named_at
@@ -172,6 +213,13 @@ test_line_takes version ts = either (name_takes ts)
     (λ x n. then_is (named_takes version x.0 x.1) (λ y d a w. d a ts w n))
     (and_then (test_takes ts) (λ t d. done (λ a w. IsLine.test w d)))
 
+later_line_takes : (version : ℕ) (ts : List Symbol) → Each (later_line_at ts) (λ x. IsLine version x.0 ts x.1)
+unfolding later_line_at
+later_line_takes version ts = either (later_takes (codes "keep") ts)
+    (λ a w. and_then (keep_takes a) (λ x d. done (IsLine.keep w d)))
+    (either (later_takes (codes "automaton") ts) (λ a w. then_is (automaton_takes version a) (λ x d. d ts w))
+    (and_then (later_takes (codes "step") ts) (λ a w. then_is (step_takes version a) (λ x d. d ts w))))
+
 line_takes : (version : ℕ) (ts : List Symbol) → Each (line_at version ts) (λ x. IsLine version x.0 ts x.1)
 unfolding line_at
 line_takes version ts = either (word_takes (codes "columns") ts)
@@ -182,9 +230,8 @@ line_takes version ts = either (word_takes (codes "columns") ts)
     (either (word_takes (codes "times") ts) (λ a w. then_is (times_takes version a) (λ x d. d ts w))
     (either (word_takes (codes "generate") ts) (λ a w. and_then (shape_takes a) (λ s d. done (IsLine.generate w d)))
     (either (word_takes (codes "test") ts) (λ a w. then_is (test_line_takes version a) (λ x d. d ts w))
-    (either (later_takes (codes "keep") ts) (λ a w. and_then (keep_takes a) (λ x d. done (IsLine.keep w d)))
-    (and_then (word_takes (codes "aggregate") ts)
-    (λ a w. and_then (goal_takes a) (λ x d. done (IsLine.aggregate w d)))))))))))
+    (either (word_takes (codes "aggregate") ts) (λ a w. and_then (goal_takes a) (λ x d. done (IsLine.aggregate w d)))
+    (later_line_takes version ts))))))))
 
 ended_takes : (version : ℕ) (x : KindTree) (ts rest : List Symbol) → IsLine version x ts rest
     → Each (ended_by x rest) (λ y. IsPart version y ts)

@@ -19,8 +19,8 @@ use Rattle.gta_spec.specs.declared.parts.RankPart.{RankPart}
 use Rattle.gta_spec.specs.declared.limits.TheConstants.{KEPT_NAME_LIMIT, NESTING_LIMIT, RANK_LIMIT}
 use Rattle.gta_syntax.specs.declared.fault.LineFault.{LineFault}
 use Rattle.gta_syntax.specs.declared.fault.LineFault.TheVariants as faults
-use Rattle.gta_spec.specs.Parts.{CaseTree, PickTree, TestTree, Sum, Length, Fold, KindTree, Columns, Labels, Measure}
-use Rattle.gta_spec.specs.Parts.{Table, Times, Generate, Test, Named, Keep, Aggregate}
+use Rattle.gta_spec.specs.Parts.{CaseTree, PickTree, TestTree, Sum, Length, Fold, Run, KindTree, Columns, Labels}
+use Rattle.gta_spec.specs.Parts.{Measure, Table, Times, Automaton, Step, Generate, Test, Named, Keep, Aggregate}
 use Rattle.gta_spec.specs.Symbols.{Symbol, Word, Later, Digits, Text, Sign, Stray}
 use Rattle.gta_spec.specs.Keep as keeps
 use Rattle.gta_spec.specs.Keep.{all_of, any_of}
@@ -247,14 +247,26 @@ check_at ts = choose (word_at (codes "mod") ts)
       z ← num_at c.1
       Some (Compare c.0 z.0, z.1))
 
-unfoldable pub fold_at : List Symbol → Option (TestTree × List Symbol)
-fold_at ts = do
-  x ← name_at ts
-  a ← word_at (codes "by") x.1
+-- the picks, and the names that are accepted
+unfoldable pub by_at : List Symbol → Option ((List PickTree × List (List ℕ)) × List Symbol)
+by_at ts = do
+  a ← word_at (codes "by") ts
   ps ← picks_at a
   b ← word_at (codes "accept") ps.1
   es ← names_at b
-  Some (Fold x.0 ps.0 es.0, es.1)
+  Some ((ps.0, es.0), es.1)
+
+unfoldable pub fold_at : List Symbol → Option (TestTree × List Symbol)
+fold_at ts = do
+  x ← name_at ts
+  y ← by_at x.1
+  Some (Fold x.0 y.0.0 y.0.1, y.1)
+
+unfoldable pub run_at : List Symbol → Option (TestTree × List Symbol)
+run_at ts = do
+  x ← name_at ts
+  y ← by_at x.1
+  Some (Run x.0 y.0.0 y.0.1, y.1)
 
 unfoldable pub test_at : List Symbol → Option (TestTree × List Symbol)
 test_at ts = choose (word_at (codes "sum") ts)
@@ -266,9 +278,10 @@ test_at ts = choose (word_at (codes "sum") ts)
     (λ a. do
       k ← check_at a
       Some (Length k.0, k.1))
+    (choose (later_at (codes "run") ts) (λ a. run_at a)
     (do
       a ← word_at (codes "fold") ts
-      fold_at a))
+      fold_at a)))
 
 unfoldable pub shape_at : List Symbol → Option (Shape × List Symbol)
 shape_at ts = choose (word_at (codes "sublists") ts) (λ a. Some (shapes.Sublists, a))
@@ -402,6 +415,25 @@ times_at ts = do
   ps ← names_at a
   Some (Times (record { table = x.0; element = y.0; products = ps.0 }), ps.1)
 
+unfoldable pub automaton_at : List Symbol → Option (KindTree × List Symbol)
+automaton_at ts = do
+  x ← name_at ts
+  a ← later_at (codes "states") x.1
+  ps ← names_at a
+  b ← later_at (codes "start") ps.1
+  s ← name_at b
+  c ← later_at (codes "letters") s.1
+  ls ← names_at c
+  Some (Automaton (record { name = x.0; states = ps.0; start = s.0; letters = ls.0 }), ls.1)
+
+unfoldable pub step_at : List Symbol → Option (KindTree × List Symbol)
+step_at ts = do
+  x ← name_at ts
+  y ← name_at x.1
+  a ← sign_at (codes "=") y.1
+  ps ← names_at a
+  Some (Step (record { automaton = x.0; letter = y.0; targets = ps.0 }), ps.1)
+
 abbrev pub kind_as : {A : Type 0} → (A → KindTree) → Option (A × List Symbol)
     → Option (KindTree × List Symbol)
 kind_as make read = do
@@ -421,6 +453,14 @@ named_at version x ts =
 unfoldable pub test_line_at : ℕ → List Symbol → Option (KindTree × List Symbol)
 test_line_at version ts = choose (name_at ts) (λ x. named_at version x.0 x.1) (kind_as Test (test_at ts))
 
+-- a line whose first word version 1 doesn't reserve
+unfoldable pub later_line_at : List Symbol → Option (KindTree × List Symbol)
+later_line_at ts = choose (later_at (codes "keep") ts) (λ a. kind_as Keep (keep_at a))
+    (choose (later_at (codes "automaton") ts) (λ a. automaton_at a)
+    (do
+      a ← later_at (codes "step") ts
+      step_at a))
+
 unfoldable pub line_at : ℕ → List Symbol → Option (KindTree × List Symbol)
 line_at version ts =
     choose (word_at (codes "columns") ts) (λ a. kind_as Columns (list_at item_at begins_name item_at a))
@@ -430,10 +470,8 @@ line_at version ts =
     (choose (word_at (codes "times") ts) (λ a. times_at a)
     (choose (word_at (codes "generate") ts) (λ a. kind_as Generate (shape_at a))
     (choose (word_at (codes "test") ts) (λ a. test_line_at version a)
-    (choose (later_at (codes "keep") ts) (λ a. kind_as Keep (keep_at a))
-    (do
-      a ← word_at (codes "aggregate") ts
-      kind_as Aggregate (goal_at a)))))))))
+    (choose (word_at (codes "aggregate") ts) (λ a. kind_as Aggregate (goal_at a))
+    (later_line_at ts))))))))
 
 -- x, where nothing is left
 abbrev pub ended_by : {A : Type 0} → A → List Symbol → Option A

@@ -12,7 +12,7 @@ use std::alloc::{AllocError, AllocFailed};
 pub enum SpecFault {
     /// A byte that may not stand in a specification: the first.
     Byte { line: u32, place: u32 },
-    /// The first line that has tokens is neither `gta 1` nor `gta 2`; line 1 where there is none.
+    /// The first line that has tokens is not `gta 1`, `gta 2` or `gta 3`; line 1 where there is none.
     Version { line: u32 },
     /// A line is not in the grammar: the first.
     Grammar { line: u32 },

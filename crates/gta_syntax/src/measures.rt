@@ -1,5 +1,5 @@
-//! Reading the cases of measures and the picks of folds: each function gives what the definition
-//! of its name in specs/Rules.antt gives.
+//! Reading the cases of measures and the picks of folds and runs: each function gives what the
+//! definition of its name in specs/Rules.antt gives.
 ghost use Rattle.std.specs.Prelude.{◌≡◌, ℕ, length, map, codes};
 ghost use Rattle.gta_spec.specs.Parts.{case_tree, pick_tree};
 ghost use Rattle.gta_syntax.specs.Sources.{symbols_in};

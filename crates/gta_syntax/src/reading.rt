@@ -108,6 +108,8 @@ fn version_named(digits: &[u8]) -> Option<u8>
         Some(1)
     } else if digits == b"2".as_slice() {
         Some(2)
+    } else if digits == b"3".as_slice() {
+        Some(3)
     } else {
         None
     }

@@ -2,7 +2,7 @@
 ghost use Rattle.std.specs.Prelude.{◌≡◌};
 ghost use Rattle.std.specs.List.{list_any};
 ghost use Rattle.std.specs.Str.{bytes_eq};
-ghost use Rattle.gta_spec.specs.Versions.{later_words, is_later};
+ghost use Rattle.gta_spec.specs.Versions.{second_words, third_words, is_later};
 
 #[derive(Clone, Copy)]
 pub(crate) struct Source<'s> {
@@ -15,13 +15,43 @@ pub(crate) struct Source<'s> {
 pub(crate) fn is_later(version: u8, word: &[u8]) -> bool
     ensures { result ≡ is_later version word.now }
 {
-    version >= 2 && is_later_word(word)
+    if is_second_word(word) {
+        version >= 2
+    } else {
+        is_third_word(word) && version >= 3
+    }
 }
 
-fn is_later_word(word: &[u8]) -> bool
-    ensures { result ≡ list_any (bytes_eq word.now) later_words }
+/// Whether the word is reserved from version 2 on.
+fn is_second_word(word: &[u8]) -> bool
+    ensures { result ≡ list_any (bytes_eq word.now) second_words }
 {
     let words: [&[u8]; 4] = [b"keep", b"or", b"not", b"then"];
+    is_among(word, &words)
+}
+
+/// Whether the word is reserved from version 3 on.
+fn is_third_word(word: &[u8]) -> bool
+    ensures { result ≡ list_any (bytes_eq word.now) third_words }
+{
+    let words: [&[u8]; 16] = [
+        b"automaton",
+        b"states",
+        b"start",
+        b"letters",
+        b"step",
+        b"run",
+        b"end",
+        b"move",
+        b"skip",
+        b"take",
+        b"semiring",
+        b"zero",
+        b"one",
+        b"plus",
+        b"mult",
+        b"in",
+    ];
     is_among(word, &words)
 }
 

@@ -12,7 +12,7 @@ use crate::source::{Source, is_later};
 use gta_text::{NUMBER_BOUND, Name, Token, TokenKind, digits_value, is_name};
 use std::alloc::Global;
 
-/// What follows the word, where the tokens begin with it. Words that version 2 reserves are for `later`.
+/// What follows the word, where the tokens begin with it. Words that a later version reserves are for `later`.
 #[tactic(auto, unfolding(crate::specs::Rules::word_at))]
 pub(crate) fn word<'t>(source: Source<'_>, word: &[u8], tokens: &'t [Token]) -> Option<&'t [Token]>
     ensures { option_map (λ rest. symbols_in source.entry rest.now) result

@@ -9,6 +9,8 @@ use Rattle.spec_rules.specs.declared.fault.Limit.TheVariants as limits
 use Rattle.spec_rules.specs.declared.fault.RuleFault.{RuleFault}
 use Rattle.spec_rules.specs.declared.fault.RuleFault.TheVariants as rules
 use Rattle.spec_rules.specs.SpecRules.{rule_fault}
+use Rattle.spec_automata.specs.Faults as automata
+use Rattle.spec_automata.specs.Faults.{automata_fault}
 use Rattle.spec_tables.specs.Faults as tables
 use Rattle.spec_tables.specs.Faults.{tables_fault}
 use Rattle.gta_types.specs.declared.fault.CheckFault.{CheckFault}
@@ -41,6 +43,9 @@ limit_word limits.Bound = codes "bound"
 limit_word limits.Modulus = codes "modulus"
 limit_word limits.Residue = codes "residue"
 limit_word limits.Kept = codes "k"
+limit_word limits.Automata = codes "automata"
+limit_word limits.States = codes "states"
+limit_word limits.Letters = codes "letters"
 
 abbrev pub fault_of_rule : RuleFault → CheckFault
 fault_of_rule (rules.Missing part) = faults.Missing (part_word part)
@@ -54,14 +59,17 @@ name_fault parts =
     option_or (option_map (λ u. faults.Unknown u.line u.name) (unknown_use parts))
     (option_map (λ d. faults.Twice d.line d.name) (declared_twice (declarations parts)))
 
--- the first fault of a specification, or none: of its names, a broken rule, or that of its tables
+-- the first fault of a specification, or none: of its names, a broken rule, that of its tables, or that of its automata
 unfoldable pub check_fault : SpecTree → Option CheckFault
 check_fault spec =
     option_or (name_fault spec.parts)
-    (option_or (option_map fault_of_rule (rule_fault spec)) (option_map faults.Table (tables_fault spec.parts)))
+    (option_or (option_map fault_of_rule (rule_fault spec))
+    (option_or (option_map faults.Table (tables_fault spec.parts))
+    (option_map faults.Automaton (automata_fault spec.parts))))
 
 -- the fault that an end tells of; want of memory is none
 abbrev pub fault_in : CheckFault → Option CheckFault
 fault_in faults.Memory = None
 fault_in (faults.Table end) = option_map faults.Table (tables.fault_in end)
+fault_in (faults.Automaton end) = option_map faults.Automaton (automata.fault_in end)
 fault_in fault = Some fault

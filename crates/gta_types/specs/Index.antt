@@ -1,5 +1,5 @@
 -- The first declarations of names, looked up by scope and name.
-use Rattle.std.specs.Prelude.{◌≡◌, ℕ, ◌+◌, Bool, true, ◌&&◌, ◌||◌, not, List, Some, None, is_some}
+use Rattle.std.specs.Prelude.{◌≡◌, ℕ, ◌+◌, ◌*◌, Bool, true, ◌&&◌, ◌||◌, not, List, Some, None, is_some}
 use Rattle.std.specs.Prelude.{Option, option_map, nat_eq, if◌then◌else◌}
 use Rattle.std.specs.Str.{bytes_eq}
 use Rattle.std.specs.List.{find}
@@ -11,19 +11,28 @@ use Rattle.gta_types.specs.declared.names.Names.{Names}
 use Rattle.gta_types.specs.declared.names.Place.{Place}
 use Rattle.gta_types.specs.declared.uses.Wanted.{Wanted as WantedPart}
 use Rattle.gta_types.specs.declared.uses.Wanted.TheVariants as wants
-use Rattle.gta_types.specs.Names.{Declaration, is_element, Use, Wanted, Column, Label, Weight}
-use Rattle.gta_types.specs.Names.{TableName, TestName, ElementOf, OneOf}
+use Rattle.gta_types.specs.Names.{Declaration, Use, Wanted, Column, Label, Weight}
+use Rattle.gta_types.specs.Names.{TableName, TestName, AutomatonName, Within, OneOf}
 use Rattle.gta_types.specs.declared.declaring.NameKind.TheVariants.{AColumn, ALabel, AMeasure, ATable, ATest}
-use Rattle.gta_types.specs.Names.{is_of}
+use Rattle.gta_types.specs.declared.declaring.NameKind.TheVariants.{AnAutomaton, AnElement, AState, ALetter}
+use Rattle.gta_types.specs.Names.{home, is_of}
 use Rattle.spec_tables.specs.Tables.{is_one_of}
 
 -- a declaration as a record of plain values
 abbrev pub declaration : Declared → Declaration
 declaration d = record { line = d.line; name = d.name.now; kind = d.kind }
 
--- the elements of a table are apart from other names: each line has a scope of its own, and other names scope 0
+-- the lists of names within lines are counted, two for each line: elements and states are in the first list of their
+-- line, letters in the second; other names are apart from all of them, in scope 0
+abbrev pub scope_in : NameKind → ℕ → ℕ
+scope_in AnElement line = 2 * line + 1
+scope_in AState line = 2 * line + 1
+scope_in ALetter line = 2 * line + 2
+scope_in _ line = 0
+
+-- the scope of a declared name
 abbrev pub scope_of : Declaration → ℕ
-scope_of d = if is_element d.kind then d.line + 1 else 0
+scope_of d = scope_in d.kind d.line
 
 abbrev pub is_named : ℕ → List ℕ → Declaration → Bool
 is_named scope x d = nat_eq scope (scope_of d) && bytes_eq x d.name
@@ -50,15 +59,15 @@ place p = (p.line, p.name.now)
 abbrev pub declared_place : Declaration → ℕ × List ℕ
 declared_place d = (d.line, d.name)
 
--- what an index has at a name that is no element
+-- what an index has at a name that is in no line's list
 abbrev pub kind_at : Names → List ℕ → Option NameKind
 kind_at names x = option_map (λ found. found.kind) (known_at names 0 x)
 
--- whether an index has an element of a table, passed over where that is no table
-abbrev pub has_element : Names → Option Found → List ℕ → Bool
-has_element names None x = true
-has_element names (Some table) x =
-    if is_of ATable (Some table.kind) then is_some (known_at names (table.line + 1) x) else true
+-- whether an index has a name of a kind within a line, passed over where that is no line of the kind's home
+abbrev pub has_inner : Names → NameKind → Option Found → List ℕ → Bool
+has_inner names kind None x = true
+has_inner names kind (Some line) x =
+    if is_of (home kind) (Some line.kind) then is_some (known_at names (scope_in kind line.line) x) else true
 
 -- whether a name is declared for a use, as an index has it
 abbrev pub known_by : Names → Wanted → List ℕ → Bool
@@ -67,7 +76,8 @@ known_by names Label x = is_of ALabel (kind_at names x)
 known_by names Weight x = is_of AColumn (kind_at names x) || is_of AMeasure (kind_at names x)
 known_by names TableName x = is_of ATable (kind_at names x)
 known_by names TestName x = is_of ATest (kind_at names x)
-known_by names (ElementOf table) x = has_element names (known_at names 0 table) x
+known_by names AutomatonName x = is_of AnAutomaton (kind_at names x)
+known_by names (Within kind line) x = has_inner names kind (known_at names 0 line) x
 known_by names (OneOf names') x = is_one_of names' x
 
 abbrev pub used_place : Use → ℕ × List ℕ
@@ -83,4 +93,5 @@ wanted_of wants.Label = Label
 wanted_of wants.Weight = Weight
 wanted_of wants.TableName = TableName
 wanted_of wants.TestName = TestName
+wanted_of wants.AutomatonName = AutomatonName
 wanted_of (wants.OneOf names) = OneOf names.now

@@ -9,14 +9,15 @@ use Rattle.gta_spec.specs.declared.parts.AtomPart.TheVariants as atoms
 use Rattle.gta_spec.specs.declared.parts.GoalPart.{GoalPart}
 use Rattle.gta_spec.specs.declared.parts.GoalPart.TheVariants as goals
 use Rattle.gta_spec.specs.declared.parts.RankPart.{RankPart}
-use Rattle.gta_spec.specs.Parts.{CaseTree, PickTree, TestTree, Sum, Length, Fold, KindTree, Columns}
-use Rattle.gta_spec.specs.Parts.{Labels, Measure, Table}
+use Rattle.gta_spec.specs.Parts.{CaseTree, PickTree, TestTree, Sum, Length, Fold, Run, KindTree, Columns}
+use Rattle.gta_spec.specs.Parts.{Labels, Measure, Table, Automaton, Step}
 use Rattle.gta_spec.specs.Parts.{Times, Test, Named, Keep, Aggregate, PartTree}
 use Rattle.gta_spec.specs.Keep.{kept_tests}
 use Rattle.spec_rules.specs.SpecRules.{first_answer}
 use Rattle.spec_tables.specs.Tables.{is_one_of}
 use Rattle.gta_types.specs.declared.declaring.NameKind.{NameKind}
 use Rattle.gta_types.specs.declared.declaring.NameKind.TheVariants.{AColumn, ALabel, AMeasure, ATable, ATest, AnElement}
+use Rattle.gta_types.specs.declared.declaring.NameKind.TheVariants.{AnAutomaton, AState, ALetter}
 
 abbrev pub same_kind : NameKind → NameKind → Bool
 same_kind AColumn AColumn = true
@@ -24,7 +25,10 @@ same_kind ALabel ALabel = true
 same_kind AMeasure AMeasure = true
 same_kind ATable ATable = true
 same_kind ATest ATest = true
+same_kind AnAutomaton AnAutomaton = true
 same_kind AnElement AnElement = true
+same_kind AState AState = true
+same_kind ALetter ALetter = true
 same_kind _ _ = false
 
 -- a name, what it is declared as, and the line that does so
@@ -42,6 +46,8 @@ declarations_of line (Columns items) = map (λ item. declare line AColumn item.n
 declarations_of line (Labels names) = map (declare line ALabel) names
 declarations_of line (Measure part) = declare line AMeasure part.name ∷ []
 declarations_of line (Table part) = declare line ATable part.name ∷ map (declare line AnElement) part.elements
+declarations_of line (Automaton part) =
+    declare line AnAutomaton part.name ∷ (map (declare line AState) part.states ++ map (declare line ALetter) part.letters)
 declarations_of line (Named name test) = declare line ATest name ∷ []
 declarations_of line _ = []
 
@@ -49,15 +55,17 @@ declarations_of line _ = []
 abbrev pub declarations : List PartTree → List Declaration
 declarations parts = flat_map (λ part. declarations_of part.line part.kind) parts
 
-abbrev pub is_element : NameKind → Bool
-is_element AnElement = true
-is_element _ = false
+-- whether a name is one of a list within a line: an element of a table, or a state or letter of an automaton
+abbrev pub is_inner : NameKind → Bool
+is_inner AnElement = true
+is_inner AState = true
+is_inner ALetter = true
+is_inner _ = false
 
--- whether two names may not be the same: elements of one table, which stand on one line, or names that
--- are no elements
+-- whether two names may not be the same: names of one list within a line, or names that are in none
 abbrev pub share_names : Declaration → Declaration → Bool
 share_names a b =
-    if is_element a.kind then is_element b.kind && nat_eq a.line b.line else not (is_element b.kind)
+    if is_inner a.kind then same_kind a.kind b.kind && nat_eq a.line b.line else not (is_inner b.kind)
 
 -- a declaration of a name that is declared before it
 abbrev pub declared_again : List Declaration → Declaration → Option Declaration
@@ -68,9 +76,9 @@ declared_again before d =
 abbrev pub declared_twice : List Declaration → Option Declaration
 declared_twice all = first_answer declared_again [] all
 
--- the first declaration of a name, elements left out
+-- the first declaration of a name, those within lines left out
 abbrev pub declaration_of : List Declaration → List ℕ → Option Declaration
-declaration_of all x = find (λ d. not (is_element d.kind) && bytes_eq d.name x) all
+declaration_of all x = find (λ d. not (is_inner d.kind) && bytes_eq d.name x) all
 
 abbrev pub kind_of : Option Declaration → Option NameKind
 kind_of None = None
@@ -84,8 +92,10 @@ pub data Wanted : Type 0 where
   Weight : Wanted
   TableName : Wanted
   TestName : Wanted
-  -- an element of the table of this name; passed over where that is no table
-  ElementOf : List ℕ → Wanted
+  AutomatonName : Wanted
+  -- a name of this kind within the line of this name, as an element is within that of its table; passed over where that
+  -- is no such line
+  Within : NameKind → List ℕ → Wanted
   -- one of these names
   OneOf : List (List ℕ) → Wanted
 
@@ -108,15 +118,20 @@ use_of_atom line (atoms.Column x cmp number) = use_as line Column x
 abbrev pub uses_of_case : ℕ → CaseTree → List Use
 uses_of_case line case = flat_map (λ term. uses_of_term line term.name) case.form ++ map (use_of_atom line) case.cond
 
-abbrev pub uses_of_pick : ℕ → List ℕ → PickTree → List Use
-uses_of_pick line table pick = use_as line (ElementOf table) pick.element ∷ map (use_of_atom line) pick.cond
+abbrev pub uses_of_pick : ℕ → Wanted → PickTree → List Use
+uses_of_pick line wanted pick = use_as line wanted pick.element ∷ map (use_of_atom line) pick.cond
 
 abbrev pub uses_of_test : ℕ → TestTree → List Use
 uses_of_test line (Sum x check) = use_as line Weight x ∷ []
 uses_of_test line (Length check) = []
 uses_of_test line (Fold table picks accept) =
     use_as line TableName table
-    ∷ (flat_map (uses_of_pick line table) picks ++ map (use_as line (ElementOf table)) accept)
+    ∷ (flat_map (uses_of_pick line (Within AnElement table)) picks
+    ++ map (use_as line (Within AnElement table)) accept)
+uses_of_test line (Run automaton picks accept) =
+    use_as line AutomatonName automaton
+    ∷ (flat_map (uses_of_pick line (Within ALetter automaton)) picks
+    ++ map (use_as line (Within AState automaton)) accept)
 
 abbrev pub use_of_rank : ℕ → RankPart → Use
 use_of_rank line rank = use_as line Weight rank.name
@@ -134,7 +149,13 @@ abbrev pub uses_of : ℕ → KindTree → List Use
 uses_of line (Measure part) = flat_map (uses_of_case line) part.cases
 uses_of line (Table part) = use_as line (OneOf part.elements) part.unit ∷ []
 uses_of line (Times part) =
-    use_as line TableName part.table ∷ map (use_as line (ElementOf part.table)) (part.element ∷ part.products)
+    use_as line TableName part.table
+    ∷ map (use_as line (Within AnElement part.table)) (part.element ∷ part.products)
+uses_of line (Automaton part) = use_as line (OneOf part.states) part.start ∷ []
+uses_of line (Step part) =
+    use_as line AutomatonName part.automaton
+    ∷ (use_as line (Within ALetter part.automaton) part.letter
+    ∷ map (use_as line (Within AState part.automaton)) part.targets)
 uses_of line (Test test) = uses_of_test line test
 uses_of line (Named name test) = uses_of_test line test
 uses_of line (Keep keep) = map (use_as line TestName) (kept_tests keep)
@@ -145,23 +166,33 @@ uses_of line _ = []
 abbrev pub uses : List PartTree → List Use
 uses parts = flat_map (λ part. uses_of part.line part.kind) parts
 
--- the elements of the table of a name, where it is the name of a table
-abbrev pub table_elements : KindTree → List ℕ → Option (List (List ℕ))
-table_elements (Table part) x = if bytes_eq part.name x then Some part.elements else None
-table_elements _ x = None
+-- what the line is named as within which there are names of a kind
+abbrev pub home : NameKind → NameKind
+home AnElement = ATable
+home AState = AnAutomaton
+home ALetter = AnAutomaton
+home kind = kind
+
+-- the names of a kind within a line, where it has this name
+abbrev pub inner_names : NameKind → KindTree → List ℕ → Option (List (List ℕ))
+inner_names AnElement (Table part) x = if bytes_eq part.name x then Some part.elements else None
+inner_names AState (Automaton part) x = if bytes_eq part.name x then Some part.states else None
+inner_names ALetter (Automaton part) x = if bytes_eq part.name x then Some part.letters else None
+inner_names _ _ x = None
 
 abbrev pub listed : Option (List (List ℕ)) → List (List ℕ)
 listed None = []
-listed (Some elements) = elements
+listed (Some names) = names
 
-abbrev pub elements_of : List PartTree → List ℕ → List (List ℕ)
-elements_of parts x = listed (first_answer (λ before part. table_elements part.kind x) [] parts)
+-- the names of a kind within the first line of a name
+abbrev pub names_within : NameKind → List PartTree → List ℕ → List (List ℕ)
+names_within kind parts x = listed (first_answer (λ before part. inner_names kind part.kind x) [] parts)
 
 abbrev pub is_of : NameKind → Option NameKind → Bool
 is_of wanted None = false
 is_of wanted (Some kind) = same_kind wanted kind
 
--- what a name was first declared as, elements left out
+-- what a name was first declared as, names within lines left out
 abbrev pub declared_as : List PartTree → List ℕ → Option NameKind
 declared_as parts x = kind_of (declaration_of (declarations parts) x)
 
@@ -172,8 +203,9 @@ is_known parts Label x = is_of ALabel (declared_as parts x)
 is_known parts Weight x = is_of AColumn (declared_as parts x) || is_of AMeasure (declared_as parts x)
 is_known parts TableName x = is_of ATable (declared_as parts x)
 is_known parts TestName x = is_of ATest (declared_as parts x)
-is_known parts (ElementOf table) x =
-    if is_of ATable (declared_as parts table) then is_one_of (elements_of parts table) x else true
+is_known parts AutomatonName x = is_of AnAutomaton (declared_as parts x)
+is_known parts (Within kind line) x =
+    if is_of (home kind) (declared_as parts line) then is_one_of (names_within kind parts line) x else true
 is_known parts (OneOf names) x = is_one_of names x
 
 -- the first use of a name that isn't declared for it

@@ -12,7 +12,7 @@ use Rattle.gta_spec.specs.declared.parts.GoalPart.{GoalPart}
 use Rattle.gta_spec.specs.declared.parts.GoalPart.TheVariants as goal_parts
 use Rattle.gta_spec.specs.declared.parts.RankPart.{RankPart}
 use Rattle.gta_spec.specs.declared.parts.TermPart.{TermPart}
-use Rattle.gta_spec.specs.Parts.{CaseTree, TableTree, PickTree, TestTree, Sum, Length, Fold}
+use Rattle.gta_spec.specs.Parts.{CaseTree, TableTree, AutomatonTree, PickTree, TestTree, Sum, Length, Fold, Run}
 use Rattle.gta_spec.specs.Parts.{KindTree, Columns, Labels, Measure}
 use Rattle.gta_spec.specs.Parts.{Generate, Test, Named, Keep, Aggregate, PartTree, SpecTree}
 use Rattle.gta_spec.specs.Keep.{KeepTree, keep_map}
@@ -24,6 +24,7 @@ use Rattle.gta_checked.specs.declared.resolved.Goal.TheVariants as goals
 use Rattle.gta_checked.specs.declared.resolved.Rank.{Rank}
 use Rattle.gta_checked.specs.Plain.{PlainCase, PlainPick, PlainTest, PlainChecked}
 use Rattle.gta_checked.specs.Plain as plain
+use Rattle.spec_automata.specs.Automata.{automata_in, automaton_of}
 use Rattle.spec_tables.specs.Tables.{number_of, tables_in, named_table}
 
 abbrev pub column_items : KindTree → List ColumnItem
@@ -52,12 +53,23 @@ pub record TableNames : Type 0 where
 abbrev pub table_names : TableTree → TableNames
 table_names table = record { name = table.name; elements = table.elements }
 
+-- an automaton's name, and the names of its states and letters
+pub record AutomatonNames : Type 0 where
+  pub name : List ℕ
+  pub states : List (List ℕ)
+  pub letters : List (List ℕ)
+
+abbrev pub automaton_names : AutomatonTree → AutomatonNames
+automaton_names automaton =
+    record { name = automaton.name; states = automaton.states; letters = automaton.letters }
+
 -- the declared names of a specification, each kind in its order
 pub record Environment : Type 0 where
   pub columns : List (List ℕ)
   pub labels : List (List ℕ)
   pub measures : List (List ℕ)
   pub tables : List TableNames
+  pub automata : List AutomatonNames
   pub tests : List (List ℕ)
 
 abbrev pub environment : List PartTree → Environment
@@ -66,6 +78,7 @@ environment parts = record {
   labels = flat_map (λ part. label_names part.kind) parts;
   measures = flat_map (λ part. measure_names part.kind) parts;
   tables = map table_names (tables_in parts);
+  automata = map automaton_names (automata_in parts);
   tests = flat_map (λ part. test_names part.kind) parts;
 }
 
@@ -76,6 +89,18 @@ elements_listed (Some table) = table.elements
 -- the elements of the first table of a name
 abbrev pub elements_in : List TableNames → List ℕ → List (List ℕ)
 elements_in tables x = elements_listed (find (λ table. bytes_eq table.name x) tables)
+
+abbrev pub states_listed : Option AutomatonNames → List (List ℕ)
+states_listed None = []
+states_listed (Some automaton) = automaton.states
+
+abbrev pub letters_listed : Option AutomatonNames → List (List ℕ)
+letters_listed None = []
+letters_listed (Some automaton) = automaton.letters
+
+-- the first automaton of a name
+abbrev pub automaton_named : List AutomatonNames → List ℕ → Option AutomatonNames
+automaton_named automata x = find (λ automaton. bytes_eq automaton.name x) automata
 
 abbrev pub signed : Bool → ℕ → ℤ
 signed true number = neg_ℤ (pos number)
@@ -116,6 +141,10 @@ resolved_test env (Fold table picks accept) =
     plain.Fold (number_of (map (λ table. table.name) env.tables) table)
     (map (resolved_pick env (elements_in env.tables table)) picks)
     (map (number_of (elements_in env.tables table)) accept)
+resolved_test env (Run automaton picks accept) =
+    plain.Run (number_of (map (λ automaton. automaton.name) env.automata) automaton)
+    (map (resolved_pick env (letters_listed (automaton_named env.automata automaton))) picks)
+    (map (number_of (states_listed (automaton_named env.automata automaton))) accept)
 
 abbrev pub resolved_rank : Environment → RankPart → Rank
 resolved_rank env rank = record { greatest = rank.greatest; measure = number_of_weight env rank.name }
@@ -178,6 +207,7 @@ pub record IsResolved (spec : SpecTree) (checked : PlainChecked) : Type 0 where
   pub labels : checked.labels ≡ (environment spec.parts).labels
   pub measures : checked.measures ≡ measures_of spec.parts
   pub tables : checked.tables ≡ map (named_table spec.parts) (tables_in spec.parts)
+  pub automata : checked.automata ≡ map (automaton_of spec.parts) (automata_in spec.parts)
   pub tests : checked.tests ≡ flat_map (λ part. tests_of (environment spec.parts) part.kind) spec.parts
   pub named : checked.named ≡ flat_map (λ part. named_of part.kind) spec.parts
   pub keep : checked.keep ≡ first_of (flat_map (λ part. keeps_of (environment spec.parts) part.kind) spec.parts)

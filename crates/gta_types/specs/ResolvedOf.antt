@@ -8,6 +8,7 @@ use Rattle.gta_checked.specs.declared.resolved.Goal.TheVariants.{Count}
 use Rattle.gta_checked.specs.Plain.{PlainChecked}
 use Rattle.gta_spec.specs.Parts.{SpecTree}
 use Rattle.gta_spec.specs.WellFormed.{IsWellFormed}
+use Rattle.spec_automata.specs.Automata.{automata_in, automaton_of}
 use Rattle.spec_tables.specs.Tables.{tables_in, named_table}
 use Rattle.gta_types.specs.declared.fault.CheckFault.{CheckFault}
 use Rattle.gta_types.specs.Faults.{check_fault}
@@ -29,6 +30,7 @@ resolved_of spec =
       labels = env.labels;
       measures = measures_of spec.parts;
       tables = map (named_table spec.parts) (tables_in spec.parts);
+      automata = map (automaton_of spec.parts) (automata_in spec.parts);
       tests = flat_map (λ part. tests_of env part.kind) spec.parts;
       named = flat_map (λ part. named_of part.kind) spec.parts;
       keep = first_of (flat_map (λ part. keeps_of env part.kind) spec.parts);
@@ -55,6 +57,7 @@ resolved-is is =
     rw (
       ← is.measures,
       ← is.tables,
+      ← is.automata,
       ← is.tests,
       ← is.named,
       ← is.keep,

@@ -15,12 +15,13 @@ use gta_checked::Checked;
 use gta_spec::Spec;
 use gta_text::Name;
 use spec_rules::{Limit, RuleFault, SinglePart, rule_fault};
+use spec_automata::checked_automata;
 use spec_tables::checked_tables;
 use std::alloc::{AllocError, Global};
 
 /// The specification with its names resolved to numbers.
 /// Of several faults the first in their order is answered: unknown names, names declared twice, missing parts,
-/// second parts, labels and assignments, limits, tables. Takes memory for an index of the declared names.
+/// second parts, labels and assignments, limits, tables, automata. Takes memory for an index of the declared names.
 pub fn check(alloc: Global, spec: &Spec) -> Result<Checked, CheckFault>
     requires well_formed { IsWellFormed (spec_tree spec.now) }
     ensures tells { Tells fault_in (λ checked. checked) (checked_outcome (spec_tree spec.now)) result }
@@ -31,7 +32,8 @@ pub fn check(alloc: Global, spec: &Spec) -> Result<Checked, CheckFault>
         return Err(fault_of_rule(alloc, fault)?);
     }
     let tables = checked_tables(alloc, spec.parts.as_slice())?;
-    Ok(resolve(alloc, spec, tables)?)
+    let automata = checked_automata(alloc, spec.parts.as_slice())?;
+    Ok(resolve(alloc, spec, tables, automata)?)
 }
 
 fn part_word(part: SinglePart) -> &'static [u8]
@@ -66,6 +68,9 @@ fn limit_word(limit: Limit) -> &'static [u8]
         Limit::Modulus => b"modulus",
         Limit::Residue => b"residue",
         Limit::Kept => b"k",
+        Limit::Automata => b"automata",
+        Limit::States => b"states",
+        Limit::Letters => b"letters",
     }
 }
 

@@ -3,7 +3,7 @@
 ghost use Rattle.std.specs.Prelude.{◌≡◌, [], ◌∷◌, ◌++◌, map, IfOk, OnOk};
 ghost use Rattle.gta_spec.specs.Parts.{kind_tree, part_tree};
 ghost use Rattle.gta_types.specs.Names.{declare, declarations_of, declarations};
-ghost use Rattle.gta_types.specs.Index.{declaration, scope_of, found_of};
+ghost use Rattle.gta_types.specs.Index.{declaration, scope_in, scope_of, found_of};
 
 use crate::names::Found;
 use gta_spec::{ColumnItem, Part, PartKind};
@@ -18,7 +18,10 @@ pub(crate) enum NameKind {
     AMeasure,
     ATable,
     ATest,
+    AnAutomaton,
     AnElement,
+    AState,
+    ALetter,
 }
 
 /// A name, what it is declared as, and the line that does so.
@@ -30,14 +33,11 @@ pub(crate) struct Declared<'a> {
 }
 
 impl<'a> Declared<'a> {
-    /// Where the name is looked up: the elements of a table beside its line.
+    /// Where the name is looked up.
     pub(crate) fn scope(&self) -> u64
         ensures { result ≡ scope_of (declaration self.now) }
     {
-        match self.kind {
-            NameKind::AnElement => self.line as u64 + 1,
-            _ => 0,
-        }
+        scope_in(self.kind, self.line)
     }
 
     pub(crate) fn found(&self) -> Found
@@ -47,6 +47,18 @@ impl<'a> Declared<'a> {
             kind: self.kind,
             line: self.line,
         }
+    }
+}
+
+/// Where a name of this kind is looked up that a line declares. The lists of names within lines are counted, two for
+/// each line.
+pub(crate) fn scope_in(kind: NameKind, line: u32) -> u64
+    ensures { result ≡ scope_in kind line }
+{
+    match kind {
+        NameKind::AnElement | NameKind::AState => 2 * line as u64 + 1,
+        NameKind::ALetter => 2 * line as u64 + 2,
+        _ => 0,
     }
 }
 
@@ -79,6 +91,11 @@ fn declare_part<'a>(
         PartKind::Table(part) => {
             declare_one(all, line, NameKind::ATable, &part.name)?;
             declare_names(all, line, NameKind::AnElement, part.elements.as_slice())
+        }
+        PartKind::Automaton(part) => {
+            declare_one(all, line, NameKind::AnAutomaton, &part.name)?;
+            declare_names(all, line, NameKind::AState, part.states.as_slice())?;
+            declare_names(all, line, NameKind::ALetter, part.letters.as_slice())
         }
         PartKind::Named { name, .. } => declare_one(all, line, NameKind::ATest, name),
         _ => Ok(()),

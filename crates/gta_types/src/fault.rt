@@ -1,9 +1,10 @@
 //! Why a specification is not accepted.
 
 ghost use Rattle.std.specs.Prelude.{◌≡◌};
-ghost use Rattle.gta_types.specs.declared.fault.CheckFault.TheVariants.{Memory, Table};
+ghost use Rattle.gta_types.specs.declared.fault.CheckFault.TheVariants.{Automaton, Memory, Table};
 
 use gta_text::Name;
+use spec_automata::AutomataFault;
 use spec_tables::TablesFault;
 use std::alloc::AllocError;
 
@@ -24,6 +25,8 @@ pub enum CheckFault {
     Limit { line: u32, limit: Name },
     /// The products of a table are those of no monoid.
     Table(TablesFault),
+    /// An automaton isn't total, or has too many functions.
+    Automaton(AutomataFault),
     /// Memory was wanting.
     Memory,
 }
@@ -41,5 +44,13 @@ impl From<TablesFault> for CheckFault {
 
     fn from(fault: TablesFault) -> CheckFault {
         CheckFault::Table(fault)
+    }
+}
+
+impl From<AutomataFault> for CheckFault {
+    ghost from_gives = { λ fault end. end ≡ Automaton fault };
+
+    fn from(fault: AutomataFault) -> CheckFault {
+        CheckFault::Automaton(fault)
     }
 }

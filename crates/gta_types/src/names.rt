@@ -26,8 +26,7 @@ pub(crate) struct Place<'a> {
 }
 
 /// The first declarations, in the order of scopes and names, so that a look-up takes few steps however names are
-/// chosen.
-/// The elements of a table have a scope of their own.
+/// chosen. Each list of names within a line, such as the elements of a table, has a scope of its own.
 #[derive(Drop)]
 pub(crate) struct Names<'a> {
     pub(crate) first: BTreeMap<(u64, &'a [u8]), Found>,

@@ -1,21 +1,22 @@
 //! The names that the lines use, looked up in the order of the lines.
 
-ghost use Rattle.std.specs.Prelude.{◌≡◌, ℕ, List, [], ◌∷◌, map, option_map};
+ghost use Rattle.std.specs.Prelude.{◌≡◌, ℕ, List, [], ◌∷◌, ◌++◌, map, option_map};
 ghost use Rattle.std.specs.List.{flat_map};
 ghost use Rattle.gta_spec.specs.Keep.{kept_tests};
 ghost use Rattle.gta_spec.specs.Parts.{keep_tree};
-ghost use Rattle.gta_spec.specs.Parts.{case_tree, pick_tree, test_tree, times_tree, kind_tree, part_tree, Fold, Times};
+ghost use Rattle.gta_spec.specs.Parts.{case_tree, pick_tree, test_tree, times_tree, step_tree, kind_tree, part_tree};
+ghost use Rattle.gta_spec.specs.Parts.{Fold, Run, Step, Times};
 ghost use Rattle.gta_types.specs.Names.{use_as, uses_of_term, use_of_atom, uses_of_case, uses_of_pick};
 ghost use Rattle.gta_types.specs.Names.{use_of_rank, uses_of_test, uses_of_goal, uses_of, uses, is_of};
-ghost use Rattle.gta_types.specs.Names.{ElementOf, TestName};
+ghost use Rattle.gta_types.specs.Names.{home, TestName, Within};
 ghost use Rattle.spec_tables.specs.Tables.{is_one_of};
-ghost use Rattle.gta_types.specs.Index.{place, known_at, known_by, has_element, unknown_in, wanted_of};
+ghost use Rattle.gta_types.specs.Index.{place, known_at, known_by, has_inner, unknown_in, wanted_of};
 
-use crate::declaring::NameKind;
+use crate::declaring::{NameKind, scope_in};
 use crate::names::{Found, Names, Place};
 use gta_spec::{
-    AtomPart, CasePart, GoalPart, KeepPart, Part, PartKind, PickPart, RankPart, TermPart, TestPart,
-    TimesPart,
+    AtomPart, CasePart, GoalPart, KeepPart, Part, PartKind, PickPart, RankPart, StepPart, TermPart,
+    TestPart, TimesPart,
 };
 use gta_text::Name;
 
@@ -27,6 +28,7 @@ pub(crate) enum Wanted<'a> {
     Weight,
     TableName,
     TestName,
+    AutomatonName,
     OneOf(&'a [Name]),
 }
 
@@ -50,15 +52,25 @@ fn is_one_of(names: &[Name], name: &Name) -> bool
     false
 }
 
-fn has_element<'a>(names: &Names<'a>, table: Option<Found>, name: &'a Name) -> bool
-    ensures { result ≡ has_element names.now table name.now }
+/// What a line is named as within which there are names of a kind.
+fn home(kind: NameKind) -> NameKind
+    ensures { result ≡ home kind }
 {
-    match table {
-        Some(found) => match found.kind {
-            NameKind::ATable => names.look(found.line as u64 + 1, name.bytes()).is_some(),
-            _ => true,
-        },
-        None => true,
+    match kind {
+        NameKind::AnElement => NameKind::ATable,
+        NameKind::AState | NameKind::ALetter => NameKind::AnAutomaton,
+        kind => kind,
+    }
+}
+
+fn has_inner<'a>(names: &Names<'a>, kind: NameKind, of: Option<Found>, name: &'a Name) -> bool
+    ensures { result ≡ has_inner names.now kind of name.now }
+{
+    match of {
+        Some(line) if line.kind == home(kind) => {
+            names.look(scope_in(kind, line.line), name.bytes()).is_some()
+        }
+        _ => true,
     }
 }
 
@@ -74,6 +86,7 @@ fn is_known<'a>(names: &Names<'a>, wanted: Wanted<'a>, name: &'a Name) -> bool
         }
         Wanted::TableName => is_kind(names.look(0, name.bytes()), NameKind::ATable),
         Wanted::TestName => is_kind(names.look(0, name.bytes()), NameKind::ATest),
+        Wanted::AutomatonName => is_kind(names.look(0, name.bytes()), NameKind::AnAutomaton),
         Wanted::OneOf(others) => is_one_of(others, name),
     }
 }
@@ -94,17 +107,18 @@ fn unknown<'a>(
     }
 }
 
-/// The name, where it is no element of the table that the index has so.
-fn unknown_element<'a>(
+/// The name, where it is none of this kind within the line that the index has so.
+fn unknown_inner<'a>(
     names: &Names<'a>,
     line: u32,
-    table: Option<Found>,
+    kind: NameKind,
+    of: Option<Found>,
     name: &'a Name,
 ) -> Option<Place<'a>>
-    ensures { (of : List ℕ) → known_at names.now 0 of ≡ table → option_map place result
-        ≡ unknown_in names.now (use_as line (ElementOf of) name.now ∷ []) }
+    ensures { (home : List ℕ) → known_at names.now 0 home ≡ of → option_map place result
+        ≡ unknown_in names.now (use_as line (Within kind home) name.now ∷ []) }
 {
-    if has_element(names, table, name) {
+    if has_inner(names, kind, of, name) {
         None
     } else {
         Some(Place { line, name })
@@ -180,13 +194,14 @@ fn in_cases<'a>(names: &Names<'a>, line: u32, cases: &'a [CasePart]) -> Option<P
 fn in_pick<'a>(
     names: &Names<'a>,
     line: u32,
-    table: Option<Found>,
+    kind: NameKind,
+    of: Option<Found>,
     pick: &'a PickPart,
 ) -> Option<Place<'a>>
-    ensures { (of : List ℕ) → known_at names.now 0 of ≡ table → option_map place result
-        ≡ unknown_in names.now (uses_of_pick line of (pick_tree pick.now)) }
+    ensures { (home : List ℕ) → known_at names.now 0 home ≡ of → option_map place result
+        ≡ unknown_in names.now (uses_of_pick line (Within kind home) (pick_tree pick.now)) }
 {
-    let found = unknown_element(names, line, table, &pick.element);
+    let found = unknown_inner(names, line, kind, of, &pick.element);
     if found.is_some() {
         return found;
     }
@@ -196,14 +211,15 @@ fn in_pick<'a>(
 fn in_picks<'a>(
     names: &Names<'a>,
     line: u32,
-    table: Option<Found>,
+    kind: NameKind,
+    of: Option<Found>,
     picks: &'a [PickPart],
 ) -> Option<Place<'a>>
-    ensures { (of : List ℕ) → known_at names.now 0 of ≡ table → option_map place result
-        ≡ unknown_in names.now (flat_map (uses_of_pick line of) (map pick_tree picks.now)) }
+    ensures { (home : List ℕ) → known_at names.now 0 home ≡ of → option_map place result
+        ≡ unknown_in names.now (flat_map (uses_of_pick line (Within kind home)) (map pick_tree picks.now)) }
 {
     for pick in picks {
-        let found = in_pick(names, line, table, pick);
+        let found = in_pick(names, line, kind, of, pick);
         if found.is_some() {
             return found;
         }
@@ -211,22 +227,42 @@ fn in_picks<'a>(
     None
 }
 
-fn in_elements<'a>(
+fn in_inner_names<'a>(
     names: &Names<'a>,
     line: u32,
-    table: Option<Found>,
-    elements: &'a [Name],
+    kind: NameKind,
+    of: Option<Found>,
+    used: &'a [Name],
 ) -> Option<Place<'a>>
-    ensures { (of : List ℕ) → known_at names.now 0 of ≡ table → option_map place result
-        ≡ unknown_in names.now (map (use_as line (ElementOf of)) elements.now) }
+    ensures { (home : List ℕ) → known_at names.now 0 home ≡ of → option_map place result
+        ≡ unknown_in names.now (map (use_as line (Within kind home)) used.now) }
 {
-    for element in elements {
-        let found = unknown_element(names, line, table, element);
+    for name in used {
+        let found = unknown_inner(names, line, kind, of, name);
         if found.is_some() {
             return found;
         }
     }
     None
+}
+
+/// The picks of a kind, and the accepted names of a kind, within the line that the index has so.
+fn in_picks_and_accepted<'a>(
+    names: &Names<'a>,
+    line: u32,
+    of: Option<Found>,
+    (picked, picks): (NameKind, &'a [PickPart]),
+    (accepted, accept): (NameKind, &'a [Name]),
+) -> Option<Place<'a>>
+    ensures { (home : List ℕ) → known_at names.now 0 home ≡ of → option_map place result
+        ≡ unknown_in names.now (flat_map (uses_of_pick line (Within picked home)) (map pick_tree picks.now)
+        ++ map (use_as line (Within accepted home)) accept.now) }
+{
+    let found = in_picks(names, line, picked, of, picks);
+    if found.is_some() {
+        return found;
+    }
+    in_inner_names(names, line, accepted, of, accept)
 }
 
 fn in_fold<'a>(
@@ -245,11 +281,26 @@ fn in_fold<'a>(
     }
     // The table is looked up once: its name may be long, and its elements many.
     let of = names.look(0, table.bytes());
-    let found_pick = in_picks(names, line, of, picks);
-    if found_pick.is_some() {
-        return found_pick;
+    let element = NameKind::AnElement;
+    in_picks_and_accepted(names, line, of, (element, picks), (element, accept))
+}
+
+fn in_run<'a>(
+    names: &Names<'a>,
+    line: u32,
+    automaton: &'a Name,
+    picks: &'a [PickPart],
+    accept: &'a [Name],
+) -> Option<Place<'a>>
+    ensures { option_map place result ≡ unknown_in names.now
+        (uses_of_test line (Run automaton.now (map pick_tree picks.now) accept.now)) }
+{
+    let found = unknown(names, line, Wanted::AutomatonName, automaton);
+    if found.is_some() {
+        return found;
     }
-    in_elements(names, line, of, accept)
+    let of = names.look(0, automaton.bytes());
+    in_picks_and_accepted(names, line, of, (NameKind::ALetter, picks), (NameKind::AState, accept))
 }
 
 fn in_test<'a>(names: &Names<'a>, line: u32, test: &'a TestPart) -> Option<Place<'a>>
@@ -263,6 +314,11 @@ fn in_test<'a>(names: &Names<'a>, line: u32, test: &'a TestPart) -> Option<Place
             picks,
             accept,
         } => in_fold(names, line, table, picks.as_slice(), accept.as_slice()),
+        TestPart::Run {
+            automaton,
+            picks,
+            accept,
+        } => in_run(names, line, automaton, picks.as_slice(), accept.as_slice()),
     }
 }
 
@@ -317,11 +373,26 @@ fn in_times<'a>(names: &Names<'a>, line: u32, times: &'a TimesPart) -> Option<Pl
         return found;
     }
     let of = names.look(0, times.table.bytes());
-    let found_element = unknown_element(names, line, of, &times.element);
+    let found_element = unknown_inner(names, line, NameKind::AnElement, of, &times.element);
     if found_element.is_some() {
         return found_element;
     }
-    in_elements(names, line, of, times.products.as_slice())
+    in_inner_names(names, line, NameKind::AnElement, of, times.products.as_slice())
+}
+
+fn in_step<'a>(names: &Names<'a>, line: u32, step: &'a StepPart) -> Option<Place<'a>>
+    ensures { option_map place result ≡ unknown_in names.now (uses_of line (Step (step_tree step.now))) }
+{
+    let found = unknown(names, line, Wanted::AutomatonName, &step.automaton);
+    if found.is_some() {
+        return found;
+    }
+    let of = names.look(0, step.automaton.bytes());
+    let found_letter = unknown_inner(names, line, NameKind::ALetter, of, &step.letter);
+    if found_letter.is_some() {
+        return found_letter;
+    }
+    in_inner_names(names, line, NameKind::AState, of, step.targets.as_slice())
 }
 
 fn in_part<'a>(names: &Names<'a>, line: u32, kind: &'a PartKind) -> Option<Place<'a>>
@@ -336,6 +407,11 @@ fn in_part<'a>(names: &Names<'a>, line: u32, kind: &'a PartKind) -> Option<Place
             &part.unit,
         ),
         PartKind::Times(part) => in_times(names, line, part),
+        PartKind::Automaton(part) => {
+            let states = Wanted::OneOf(part.states.as_slice());
+            unknown(names, line, states, &part.start)
+        }
+        PartKind::Step(part) => in_step(names, line, part),
         PartKind::Test(test) => in_test(names, line, test),
         PartKind::Named { test, .. } => in_test(names, line, test),
         PartKind::Keep(keep) => in_keep(names, line, keep),

@@ -9,15 +9,15 @@ use Rattle.gta_spec.specs.declared.limits.TheConstants.{NAME_LIMIT, HEADER_LIMIT
 use Rattle.gta_spec.specs.declared.limits.TheConstants.{MEASURE_LIMIT}
 use Rattle.gta_spec.specs.declared.limits.TheConstants.{TABLE_LIMIT, TEST_LIMIT, ELEMENT_LIMIT, CASE_LIMIT, TERM_LIMIT}
 use Rattle.gta_spec.specs.declared.limits.TheConstants.{ATOM_LIMIT, FACTOR_LIMIT, BOUND_LIMIT, MODULUS_LIMIT}
-use Rattle.gta_spec.specs.declared.limits.TheConstants.{KEEP_LIMIT}
+use Rattle.gta_spec.specs.declared.limits.TheConstants.{KEEP_LIMIT, AUTOMATON_LIMIT, STATE_LIMIT, LETTER_LIMIT}
 use Rattle.gta_spec.specs.declared.parts.AtomPart.{AtomPart}
 use Rattle.gta_spec.specs.declared.parts.TermPart.{TermPart}
 use Rattle.gta_spec.specs.declared.parts.Check.{Check}
 use Rattle.gta_spec.specs.declared.parts.Check.TheVariants.{Compare, Mod}
 use Rattle.gta_spec.specs.declared.parts.GoalPart.TheVariants as goals
-use Rattle.gta_spec.specs.Parts.{CaseTree, PickTree, TestTree, Sum, Length, Fold, KindTree, Columns, Labels, Measure}
-use Rattle.gta_spec.specs.Parts.{Table}
-use Rattle.gta_spec.specs.Parts.{Times, Generate, Test, Named, Keep, Aggregate, PartTree, SpecTree}
+use Rattle.gta_spec.specs.Parts.{CaseTree, PickTree, TestTree, Sum, Length, Fold, Run, KindTree, Columns, Labels}
+use Rattle.gta_spec.specs.Parts.{Measure, Table, Times, Automaton, Step}
+use Rattle.gta_spec.specs.Parts.{Generate, Test, Named, Keep, Aggregate, PartTree, SpecTree}
 use Rattle.spec_rules.specs.declared.fault.SinglePart.{SinglePart}
 use Rattle.spec_rules.specs.declared.fault.SinglePart.TheVariants as singles
 use Rattle.spec_rules.specs.declared.fault.Limit.{Limit}
@@ -37,6 +37,8 @@ single_of (Labels names) = Some singles.Labels
 single_of (Measure part) = None
 single_of (Table part) = None
 single_of (Times part) = None
+single_of (Automaton part) = None
+single_of (Step part) = None
 single_of (Generate shape) = Some singles.Generate
 single_of (Test test) = None
 single_of (Named name test) = None
@@ -103,6 +105,7 @@ declared_names (Columns items) = map (λ item. item.name) items
 declared_names (Labels names) = names
 declared_names (Measure part) = part.name ∷ []
 declared_names (Table part) = part.name ∷ part.elements
+declared_names (Automaton part) = part.name ∷ (part.states ++ part.letters)
 declared_names (Named name test) = name ∷ []
 declared_names _ = []
 
@@ -134,8 +137,9 @@ abbrev pub test_conditions : TestTree → List (List AtomPart)
 test_conditions (Sum name check) = []
 test_conditions (Length check) = []
 test_conditions (Fold table picks accept) = pick_conditions picks
+test_conditions (Run automaton picks accept) = pick_conditions picks
 
--- the conditions of a line: of a measure's cases, or of a fold's picks
+-- the conditions of a line: of a measure's cases, or of the picks of a fold or run
 abbrev pub conditions : KindTree → List (List AtomPart)
 conditions (Measure part) = case_conditions part.cases
 conditions (Test test) = test_conditions test
@@ -155,6 +159,7 @@ abbrev pub test_checks : TestTree → List Check
 test_checks (Sum name check) = check ∷ []
 test_checks (Length check) = check ∷ []
 test_checks (Fold table picks accept) = []
+test_checks (Run automaton picks accept) = []
 
 abbrev pub checks : KindTree → List Check
 checks (Test test) = test_checks test
@@ -193,6 +198,10 @@ abbrev pub is_table : KindTree → Bool
 is_table (Table part) = true
 is_table _ = false
 
+abbrev pub is_automaton : KindTree → Bool
+is_automaton (Automaton part) = true
+is_automaton _ = false
+
 -- a test, with a name or without
 abbrev pub is_test : KindTree → Bool
 is_test (Test test) = true
@@ -207,6 +216,7 @@ count_of is_kind lines = length (filter (λ line. is_kind line.kind) lines)
 abbrev pub earlier : List PartTree → KindTree → ℕ
 earlier before (Measure part) = count_of is_measure before
 earlier before (Table part) = count_of is_table before
+earlier before (Automaton part) = count_of is_automaton before
 earlier before (Test test) = count_of is_test before
 earlier before (Named name test) = count_of is_test before
 earlier before _ = 0
@@ -225,6 +235,7 @@ are_elements_past _ = false
 
 abbrev pub are_picks_past : TestTree → Bool
 are_picks_past (Fold table picks accept) = is_longer CASE_LIMIT picks
+are_picks_past (Run automaton picks accept) = is_longer CASE_LIMIT picks
 are_picks_past _ = false
 
 abbrev pub are_cases_past : KindTree → Bool
@@ -232,6 +243,14 @@ are_cases_past (Measure part) = is_longer CASE_LIMIT part.cases
 are_cases_past (Test test) = are_picks_past test
 are_cases_past (Named name test) = are_picks_past test
 are_cases_past _ = false
+
+abbrev pub are_states_past : KindTree → Bool
+are_states_past (Automaton part) = is_longer STATE_LIMIT part.states
+are_states_past _ = false
+
+abbrev pub are_letters_past : KindTree → Bool
+are_letters_past (Automaton part) = is_longer LETTER_LIMIT part.letters
+are_letters_past _ = false
 
 -- whether a line, with so many of its kind before it, passes a limit
 abbrev pub is_past : ℕ → KindTree → Limit → Bool
@@ -251,13 +270,16 @@ is_past count kind limits.Bound = list_any is_bound_past (checks kind)
 is_past count kind limits.Modulus = list_any is_modulus_past (checks kind)
 is_past count kind limits.Residue = list_any is_residue_past (checks kind)
 is_past count kind limits.Kept = is_kept_past kind
+is_past count kind limits.Automata = is_automaton kind && nat_le AUTOMATON_LIMIT count
+is_past count kind limits.States = are_states_past kind
+is_past count kind limits.Letters = are_letters_past kind
 
 -- the limits in their order
 abbrev pub all_limits : List Limit
 all_limits =
     limits.Name ∷ limits.Header ∷ limits.Columns ∷ limits.Labels ∷ limits.Measures ∷ limits.Tables ∷ limits.Tests
     ∷ limits.Elements ∷ limits.Cases ∷ limits.Terms ∷ limits.Atoms ∷ limits.Factor ∷ limits.Bound ∷ limits.Modulus
-    ∷ limits.Residue ∷ limits.Kept ∷ []
+    ∷ limits.Residue ∷ limits.Kept ∷ limits.Automata ∷ limits.States ∷ limits.Letters ∷ []
 
 -- the first limit that a line passes
 abbrev pub passed_limit : ℕ → KindTree → Option Limit

@@ -29,6 +29,9 @@ pub enum Limit {
     Modulus,
     Residue,
     Kept,
+    Automata,
+    States,
+    Letters,
 }
 
 /// The first rule that a specification breaks. Lines are numbered from 1.

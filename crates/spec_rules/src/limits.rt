@@ -2,8 +2,9 @@
 
 ghost use Rattle.std.specs.Prelude.{◌≡◌, ℕ, ◌<◌, List, map, Some, None, if◌then◌else◌};
 ghost use Rattle.std.specs.List.{list_any};
-ghost use Rattle.gta_spec.specs.Parts.{case_tree, kind_tree, measure_tree, table_tree, pick_tree, test_tree};
-ghost use Rattle.gta_spec.specs.Parts.{Columns, Labels, Measure, Table, Test, Named, Aggregate, Sum, Length, Fold};
+ghost use Rattle.gta_spec.specs.Parts.{automaton_tree, case_tree, kind_tree, measure_tree, table_tree, pick_tree};
+ghost use Rattle.gta_spec.specs.Parts.{test_tree, Columns, Labels, Measure, Table, Automaton, Test, Named, Aggregate};
+ghost use Rattle.gta_spec.specs.Parts.{Sum, Length, Fold, Run};
 ghost use Rattle.spec_rules.specs.SpecRules.{case_conditions, case_forms, declared_names, header_texts, headers};
 ghost use Rattle.spec_rules.specs.SpecRules.{is_factor_past, is_longer, is_number_kept_past};
 ghost use Rattle.spec_rules.specs.SpecRules.{passed_limit, pick_conditions};
@@ -11,10 +12,10 @@ ghost use Rattle.spec_rules.specs.declared.fault.Limit.TheVariants.{Kept};
 
 use crate::fault::Limit;
 use gta_spec::{
-    ATOM_LIMIT, BOUND_LIMIT, CASE_LIMIT, COLUMN_LIMIT, CasePart, Check, ColumnItem, ELEMENT_LIMIT,
-    FACTOR_LIMIT, GoalPart, HEADER_LIMIT, KEEP_LIMIT, LABEL_LIMIT, MEASURE_LIMIT, MODULUS_LIMIT,
-    MeasurePart, NAME_LIMIT, PartKind, PickPart, TABLE_LIMIT, TERM_LIMIT, TEST_LIMIT, TablePart,
-    TermPart, TestPart,
+    ATOM_LIMIT, AUTOMATON_LIMIT, AutomatonPart, BOUND_LIMIT, CASE_LIMIT, COLUMN_LIMIT, CasePart,
+    Check, ColumnItem, ELEMENT_LIMIT, FACTOR_LIMIT, GoalPart, HEADER_LIMIT, KEEP_LIMIT,
+    LABEL_LIMIT, LETTER_LIMIT, MEASURE_LIMIT, MODULUS_LIMIT, MeasurePart, NAME_LIMIT, PartKind,
+    PickPart, STATE_LIMIT, TABLE_LIMIT, TERM_LIMIT, TEST_LIMIT, TablePart, TermPart, TestPart,
 };
 use gta_text::Name;
 
@@ -30,7 +31,8 @@ pub(crate) fn passed_limit(count: usize, kind: &PartKind) -> Option<Limit>
         PartKind::Test(part) => test_limit(count, part),
         PartKind::Named { name, test } => named_limit(count, name, test),
         PartKind::Aggregate(goal) => goal_limit(goal),
-        PartKind::Times(_) | PartKind::Generate(_) | PartKind::Keep(_) => None,
+        PartKind::Automaton(part) => automaton_limit(count, part),
+        PartKind::Times(_) | PartKind::Step(_) | PartKind::Generate(_) | PartKind::Keep(_) => None,
     }
 }
 
@@ -161,6 +163,22 @@ fn table_limit(count: usize, part: &TablePart) -> Option<Limit>
     }
 }
 
+fn automaton_limit(count: usize, part: &AutomatonPart) -> Option<Limit>
+    ensures { result ≡ passed_limit count (Automaton (automaton_tree part.now)) }
+{
+    if is_name_past(&part.name) || have_name_past(&part.states) || have_name_past(&part.letters) {
+        Some(Limit::Name)
+    } else if count >= AUTOMATON_LIMIT {
+        Some(Limit::Automata)
+    } else if part.states.len() > STATE_LIMIT {
+        Some(Limit::States)
+    } else if part.letters.len() > LETTER_LIMIT {
+        Some(Limit::Letters)
+    } else {
+        None
+    }
+}
+
 fn test_limit(count: usize, part: &TestPart) -> Option<Limit>
     ensures { result ≡ passed_limit count (Test (test_tree part.now)) }
 {
@@ -170,6 +188,7 @@ fn test_limit(count: usize, part: &TestPart) -> Option<Limit>
     match part {
         TestPart::Sum { check, .. } | TestPart::Length { check } => check_limit(check),
         TestPart::Fold { picks, .. } => picks_limit(picks),
+        TestPart::Run { picks, .. } => picks_limit(picks),
     }
 }
 
@@ -209,8 +228,10 @@ fn check_limit(check: &Check) -> Option<Limit>
 }
 
 fn picks_limit(picks: &[PickPart]) -> Option<Limit>
-    ensures { (count : ℕ) (table : List ℕ) (accept : List (List ℕ)) → count < TEST_LIMIT
+    ensures of_fold { (count : ℕ) (table : List ℕ) (accept : List (List ℕ)) → count < TEST_LIMIT
         → result ≡ passed_limit count (Test (Fold table (map pick_tree picks.now) accept)) }
+    ensures of_run { (count : ℕ) (automaton : List ℕ) (accept : List (List ℕ)) → count < TEST_LIMIT
+        → result ≡ passed_limit count (Test (Run automaton (map pick_tree picks.now) accept)) }
 {
     if picks.len() > CASE_LIMIT {
         Some(Limit::Cases)

@@ -34,11 +34,13 @@ fn limit_fault(parts: &[Part]) -> Option<RuleFault>
 {
     let mut measures = 0;
     let mut tables = 0;
+    let mut automata = 0;
     let mut tests = 0;
     for part in parts {
         let earlier = match part.kind {
             PartKind::Measure(_) => measures,
             PartKind::Table(_) => tables,
+            PartKind::Automaton(_) => automata,
             PartKind::Test(_) => tests,
             PartKind::Named { .. } => tests,
             _ => 0,
@@ -52,6 +54,7 @@ fn limit_fault(parts: &[Part]) -> Option<RuleFault>
         match part.kind {
             PartKind::Measure(_) => measures += 1,
             PartKind::Table(_) => tables += 1,
+            PartKind::Automaton(_) => automata += 1,
             PartKind::Test(_) => tests += 1,
             PartKind::Named { .. } => tests += 1,
             _ => {}

@@ -4,8 +4,8 @@ use Rattle.std.proofs.Common.{get_or, cond, refl, ap, ◌∙◌}
 use Rattle.std.specs.Str.{bytes_eq}
 use Rattle.std.proofs.lemmas.List.{append-nil, map-append}
 use Rattle.std.proofs.lemmas.Grind.{flat_map-append}
-use Rattle.gta_spec.specs.Parts.{PartTree, TimesTree, KindTree, Columns, Labels, Measure, Table, Times, Generate}
-use Rattle.gta_spec.specs.Parts.{Test, Named, Keep, Aggregate, TableTree}
+use Rattle.gta_spec.specs.Parts.{PartTree, TimesTree, KindTree, Columns, Labels, Measure, Table, Times, Automaton}
+use Rattle.gta_spec.specs.Parts.{Step, Generate, Test, Named, Keep, Aggregate, TableTree}
 use Rattle.spec_tables.proofs.Fronts.{split_at}
 use Rattle.spec_tables.specs.Tables.{numbers_if, only_one, products_of, products_on, row_of}
 use Rattle.spec_tables.specs.Lines.{line_of, lines_of, products_by, products_for, row_on}
@@ -23,6 +23,8 @@ of_one table element (Columns items) = refl
 of_one table element (Labels names) = refl
 of_one table element (Measure part) = refl
 of_one table element (Table part) = refl
+of_one table element (Automaton part) = refl
+of_one table element (Step part) = refl
 of_one table element (Generate shape) = refl
 of_one table element (Test test) = refl
 of_one table element (Named name test) = refl

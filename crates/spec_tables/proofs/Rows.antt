@@ -161,7 +161,7 @@ numbers_in-row elements products row is =
     (λ b. absurd (none-some row (let h : None ≡ Some row = rw (t, b) at is in h))))
     (λ f. absurd (none-some row (let h : None ≡ Some row = rw f at is in h)))
 
-numbers_if-row : (elements : List (List ℕ)) (products : Option (List (List ℕ))) (row : List ℕ)
+pub numbers_if-row : (elements : List (List ℕ)) (products : Option (List (List ℕ))) (row : List ℕ)
     → numbers_if elements products ≡ Some row
     → (length row ≡ length elements) × All (λ cell. cell < length elements) row
 numbers_if-row elements None row is = absurd (none-some row is)
@@ -244,6 +244,8 @@ no_table_line (kinds.Labels names) other = refl
 no_table_line (kinds.Measure part) other = refl
 no_table_line (kinds.Table part) other = absurd (other part refl)
 no_table_line (kinds.Times part) other = refl
+no_table_line (kinds.Automaton part) other = refl
+no_table_line (kinds.Step part) other = refl
 no_table_line (kinds.Generate shape) other = refl
 no_table_line (kinds.Test part) other = refl
 no_table_line (kinds.Named name part) other = refl

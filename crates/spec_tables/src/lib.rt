@@ -9,5 +9,5 @@ mod products;
 mod tables;
 
 pub use fault::TablesFault;
-pub use numbers::number_in;
+pub use numbers::{number_in, numbers_in};
 pub use tables::checked_tables;

@@ -20,9 +20,9 @@ pub fn number_in(names: &[Name], name: &Name) -> u32
     names.len() as u32
 }
 
-/// The numbers of as many products as there are elements; None where there are more or fewer, or one is no
-/// element.
-pub(crate) fn numbers_in(
+/// The numbers of as many names as there are elements; None where there are more or fewer, or one is no element. It
+/// takes memory for them.
+pub fn numbers_in(
     alloc: Global,
     elements: &[Name],
     products: &[Name],

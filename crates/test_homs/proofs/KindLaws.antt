@@ -6,8 +6,8 @@ use Rattle.shape_gen.specs.declared.mark.Mark.{Mark}
 use Rattle.gta_spec.specs.declared.parts.Check.{Check}
 use Rattle.gta_spec.specs.declared.parts.Check.TheVariants.{Compare, Mod}
 use Rattle.gta_checked.specs.PlainRows.{PlainRows}
-use Rattle.gta_checked.specs.Plain.{PlainTest, Sum, Length, Fold, PlainChecked}
-use Rattle.gta_checked.specs.Tables.{table_at, no_table}
+use Rattle.gta_checked.specs.Plain.{PlainTest, Sum, Length, Fold, Run, PlainChecked}
+use Rattle.gta_checked.specs.Tables.{automaton_at, no_automaton, table_at, no_table}
 use Rattle.gta_checked.specs.Within.{IsCheckWithin, IsTestWithin, IsWithinLimits}
 use Rattle.gta_meaning.specs.InRange.{label_count}
 use Rattle.gta_meaning.specs.Tests.{meets, passes_test}
@@ -22,6 +22,7 @@ use Rattle.test_homs.proofs.ComparedLaw.{compared-IsHomOf}
 use Rattle.test_homs.proofs.Firsts.{natural-values, negative_from-cons_none}
 use Rattle.test_homs.proofs.FoldLaw.{fold_in-IsHomOf}
 use Rattle.test_homs.proofs.RemainderLaw.{remainder-IsHomOf}
+use Rattle.test_homs.proofs.RunLaw.{run_of-IsHomOf}
 
 -- the same candidates pass
 IsHomOf-same : (rows : PlainRows) (labels : ℕ) (passes others : List Mark → Bool) (hom : Hom)
@@ -59,7 +60,8 @@ module _ (checked : PlainChecked) (rows : PlainRows) (within : IsWithinLimits ch
 
   abbrev Within : PlainTest → Type 0
   Within test =
-      IsTestWithin (length checked.columns) (length checked.labels) (length checked.measures) checked.tables test
+      IsTestWithin (length checked.columns) (length checked.labels) (length checked.measures) checked.tables
+      checked.automata test
 
   abbrev IsHomFor : PlainTest → Type 0
   IsHomFor test =
@@ -76,6 +78,10 @@ module _ (checked : PlainChecked) (rows : PlainRows) (within : IsWithinLimits ch
       fold_in-IsHomOf rows (length checked.columns) (length checked.labels) (label_count checked)
       (table_at checked.tables table).products picks accept (within.tables table no_table test_within.declared).lawful
       test_within.each_pick
+  hom_of-IsHomOf number (Run automaton picks accept) test_within none =
+      let automaton_within = within.automata automaton no_automaton test_within.declared in
+      run_of-IsHomOf rows (length checked.columns) (length checked.labels) (automaton_at checked.automata automaton)
+      picks automaton_within.is_auto automaton_within.few test_within.each_pick (label_count checked) accept
 
   homs-from : (tests : List PlainTest) (number : ℕ) → All Within tests → negative_from checked rows number tests ≡ None
       → All IsHomFor tests

@@ -6,6 +6,7 @@ pub mod AddedTotal
 pub mod ComparedLaw
 pub mod RemainderLaw
 pub mod FoldLaw
+pub mod RunLaw
 pub mod KindLaws
 pub mod Letters
 pub mod Digits

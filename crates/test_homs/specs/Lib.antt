@@ -3,6 +3,7 @@ pub mod Added
 pub mod Compared
 pub mod Remainder
 pub mod Fold
+pub mod Run
 pub mod Kinds
 pub mod Sizes
 pub mod Homs

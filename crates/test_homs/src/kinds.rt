@@ -1,13 +1,15 @@
 //! The kinds of tests, each by its file. specs/Kinds.antt has the same list.
 
 ghost use Rattle.std.specs.Prelude.{◌≡◌, length, map, IfOk};
-ghost use Rattle.gta_checked.specs.Plain.{plain_test};
+ghost use Rattle.gta_checked.specs.Plain.{plain_pick, plain_test};
 ghost use Rattle.gta_checked.specs.PlainRows.{plain_rows};
-ghost use Rattle.gta_checked.specs.Within.{IsCheckWithin, IsTestWithin};
+ghost use Rattle.gta_checked.specs.Tables.{automaton_at};
+ghost use Rattle.gta_checked.specs.Within.{IsCheckWithin, IsRunWithin, IsTestWithin};
 ghost use Rattle.gta_meaning.specs.InRange.{HasColumnsOf, label_count};
 ghost use Rattle.test_homs.specs.Added.{IsAddedWithin};
 ghost use Rattle.test_homs.specs.Kinds.{hom_of, hom_of_check};
 ghost use Rattle.test_homs.specs.Prepared as plain;
+ghost use Rattle.test_homs.specs.Run.{run_of};
 
 use crate::added::Added;
 use crate::compared::Compared;
@@ -15,7 +17,8 @@ use crate::fold::Fold;
 use crate::kind::prepare;
 use crate::prepared::Prepared;
 use crate::remainder::Remainder;
-use gta_checked::{Checked, Rows, Test};
+use crate::run::Run;
+use gta_checked::{Checked, Pick, Rows, Test};
 use gta_meaning::{ElementSet, label_count};
 use gta_spec::Check;
 use monoid_kit::Monoid;
@@ -48,7 +51,7 @@ fn prepared_test(
 ) -> Result<Prepared, AllocError>
     requires columns { HasColumnsOf checked.now (plain_rows rows.now) }
     requires within { IsTestWithin (length checked.now.columns) (length checked.now.labels)
-        (length checked.now.measures) checked.now.tables (plain_test test.now) }
+        (length checked.now.measures) checked.now.tables checked.now.automata (plain_test test.now) }
     ensures { IfOk result (λ prepared. plain.plain_prepared prepared
         ≡ plain.prepared_of (plain_rows rows.now) (label_count checked.now) number
         (hom_of checked.now (plain_test test.now))) }
@@ -75,7 +78,40 @@ fn prepared_test(
             };
             prepare(alloc, number, &fold, rows.count, label_count(checked))
         }
+        Test::Run {
+            automaton,
+            picks,
+            accept,
+        } => prepared_run(alloc, checked, rows, number, *automaton, picks, accept),
     }
+}
+
+fn prepared_run(
+    alloc: Global,
+    checked: &Checked,
+    rows: &Rows,
+    number: usize,
+    automaton: u32,
+    picks: &[Pick],
+    accept: &[u32],
+) -> Result<Prepared, AllocError>
+    requires columns { HasColumnsOf checked.now (plain_rows rows.now) }
+    requires within { IsRunWithin (length checked.now.columns) (length checked.now.labels) checked.now.automata
+        automaton (map plain_pick picks.now) accept.now }
+    ensures { IfOk result (λ prepared. plain.plain_prepared prepared
+        ≡ plain.prepared_of (plain_rows rows.now) (label_count checked.now) number
+        (run_of (automaton_at checked.now.automata automaton) (map plain_pick picks.now) accept.now)) }
+{
+    let automaton = &checked.automata()[automaton as usize];
+    let accepted = &ElementSet::of(alloc, automaton.machine().states, accept)?;
+    let run = Run {
+        rows,
+        automaton,
+        picks,
+        accept,
+        accepted,
+    };
+    prepare(alloc, number, &run, rows.count, label_count(checked))
 }
 
 fn prepared_sum(

@@ -14,6 +14,7 @@ mod negatives;
 mod order;
 mod prepared;
 mod remainder;
+mod run;
 mod tests_of;
 
 pub use negatives::{Negative, first_negative};

@@ -39,7 +39,7 @@ pub fn first_negative(checked: &Checked, rows: &Rows) -> Option<Negative>
 fn negative_of_test(checked: &Checked, rows: &Rows, number: u32, test: &Test) -> Option<Negative>
     requires columns { HasColumnsOf checked.now (plain_rows rows.now) }
     requires within { IsTestWithin (length checked.now.columns) (length checked.now.labels)
-        (length checked.now.measures) checked.now.tables (plain_test test.now) }
+        (length checked.now.measures) checked.now.tables checked.now.automata (plain_test test.now) }
     ensures { result
         ≡ negatives.negative_of_test checked.now (plain_rows rows.now) number (plain_test test.now) }
 {

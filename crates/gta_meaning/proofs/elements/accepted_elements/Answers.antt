@@ -13,7 +13,8 @@ accepted_by-requires c =
     let same = ap (map plain_test) c.deref-test-items.ensures.value ∙ c.tests-tests.ensures.tests in
     record {
       within = item-within plain_test c.deref-test-items.result.now checked.tests same
-          (IsTestWithin (length checked.columns) (length checked.labels) (length checked.measures) checked.tables)
+          (IsTestWithin (length checked.columns) (length checked.labels) (length checked.measures) checked.tables
+          checked.automata)
           c.loop-test.test-index c.test-item.result c.loop-test-test.true c.test-item.is
           c.tests-tests.ensures.within.tests;
     }

@@ -17,7 +17,8 @@ prepared_test-requires-clause-within c =
     let in_range : c.loop-number.number < length items =
     omega (arith, c.loop-number-test.true, c.len-number-end.ensures, c.tests-tests.result.now.ok) in
     item-within plain_test items checked.tests c.tests-tests.ensures.tests
-    (IsTestWithin (length checked.columns) (length checked.labels) (length checked.measures) checked.tables)
+    (IsTestWithin (length checked.columns) (length checked.labels) (length checked.measures) checked.tables
+    checked.automata)
     c.loop-number.number c.index.result.now in_range c.index.ensures c.tests-tests.ensures.within.tests
 
 pub loop-number-preserved : goal.loop-number-preserved

@@ -14,7 +14,8 @@ negative_of_test-requires-clause-within c =
     let in_range : c.loop-k.k < length c.tests-tests.result.now.items =
     omega (arith, c.loop-k-test.true, c.len-k-end.ensures, c.tests-tests.result.now.ok) in
     item-within plain_test c.tests-tests.result.now.items checked.tests c.tests-tests.ensures.tests
-    (IsTestWithin (length checked.columns) (length checked.labels) (length checked.measures) checked.tables)
+    (IsTestWithin (length checked.columns) (length checked.labels) (length checked.measures) checked.tables
+    checked.automata)
     c.loop-k.k c.index.result.now in_range c.index.ensures c.tests-tests.ensures.within.tests
 
 pub returns-in-Some-clause-first : goal.returns-in-Some-clause-first

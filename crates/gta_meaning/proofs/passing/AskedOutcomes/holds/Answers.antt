@@ -12,7 +12,8 @@ passes_test-requires-clause-within c =
     let found = c.in-Some.ensures.lookup in
     let same = ap (map plain_test) c.deref.ensures.value ∙ c.tests.ensures.tests in
     item-within plain_test c.deref.result.now checked.tests same
-    (IsTestWithin (length checked.columns) (length checked.labels) (length checked.measures) checked.tables)
+    (IsTestWithin (length checked.columns) (length checked.labels) (length checked.measures) checked.tables
+    checked.automata)
     c.args.number c.in-Some.test.now found.3.0 found.1 c.tests.ensures.within.tests
 
 pub returns-in-Some : goal.returns-in-Some

@@ -3,7 +3,7 @@ use Rattle.gta_checked.specs.Plain.{plain_pick}
 use Rattle.gta_checked.specs.declared.resolved.Pick.{Pick}
 use Rattle.gta_checked.specs.PlainRows.{plain_rows}
 use Rattle.gta_meaning.specs.Values.{holds}
-use Rattle.gta_meaning.proofs.folds.picked.Given as goal
+use Rattle.gta_meaning.proofs.picks.first_pick.Given as goal
 
 -- no pick so far has a condition that holds
 abbrev pub invariant-loop-pick : goal.invariant-loop-pick

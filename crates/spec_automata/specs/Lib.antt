@@ -1,0 +1,5 @@
+pub mod Automata
+pub mod Faults
+pub mod Lines
+pub mod Ready
+pub mod Checked
