@@ -13,8 +13,10 @@ use Rattle.gta_types.specs.declared.uses.Wanted.{Wanted as WantedPart}
 use Rattle.gta_types.specs.declared.uses.Wanted.TheVariants as wants
 use Rattle.gta_types.specs.Names.{Declaration, Use, Wanted, Column, Label, Weight}
 use Rattle.gta_types.specs.Names.{TableName, TestName, AutomatonName, Within, OneOf}
-use Rattle.gta_types.specs.declared.declaring.NameKind.TheVariants.{AColumn, ALabel, AMeasure, ATable, ATest}
-use Rattle.gta_types.specs.declared.declaring.NameKind.TheVariants.{AnAutomaton, AnElement, AState, ALetter}
+use Rattle.gta_types.specs.declared.declaring.InnerKind.{InnerKind}
+use Rattle.gta_types.specs.declared.declaring.InnerKind.TheVariants.{Element, State, Letter}
+use Rattle.gta_types.specs.declared.declaring.NameKind.TheVariants.{AColumn, ALabel, AMeasure, ATable, AnAutomaton}
+use Rattle.gta_types.specs.declared.declaring.NameKind.TheVariants.{ATest, Inner}
 use Rattle.gta_types.specs.Names.{home, is_of}
 use Rattle.spec_tables.specs.Tables.{is_one_of}
 
@@ -22,12 +24,15 @@ use Rattle.spec_tables.specs.Tables.{is_one_of}
 abbrev pub declaration : Declared → Declaration
 declaration d = record { line = d.line; name = d.name.now; kind = d.kind }
 
--- the lists of names within lines are counted, two for each line: elements and states are in the first list of their
--- line, letters in the second; other names are apart from all of them, in scope 0
+-- the lists of names within lines are counted, three for each line
+abbrev pub scope_within : InnerKind → ℕ → ℕ
+scope_within Element line = 3 * line + 1
+scope_within State line = 3 * line + 2
+scope_within Letter line = 3 * line + 3
+
+-- other names are apart from all of them, in scope 0
 abbrev pub scope_in : NameKind → ℕ → ℕ
-scope_in AnElement line = 2 * line + 1
-scope_in AState line = 2 * line + 1
-scope_in ALetter line = 2 * line + 2
+scope_in (Inner kind) line = scope_within kind line
 scope_in _ line = 0
 
 -- the scope of a declared name
@@ -64,10 +69,10 @@ abbrev pub kind_at : Names → List ℕ → Option NameKind
 kind_at names x = option_map (λ found. found.kind) (known_at names 0 x)
 
 -- whether an index has a name of a kind within a line, passed over where that is no line of the kind's home
-abbrev pub has_inner : Names → NameKind → Option Found → List ℕ → Bool
+abbrev pub has_inner : Names → InnerKind → Option Found → List ℕ → Bool
 has_inner names kind None x = true
 has_inner names kind (Some line) x =
-    if is_of (home kind) (Some line.kind) then is_some (known_at names (scope_in kind line.line) x) else true
+    if is_of (home kind) (Some line.kind) then is_some (known_at names (scope_within kind line.line) x) else true
 
 -- whether a name is declared for a use, as an index has it
 abbrev pub known_by : Names → Wanted → List ℕ → Bool

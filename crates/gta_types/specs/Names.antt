@@ -15,9 +15,17 @@ use Rattle.gta_spec.specs.Parts.{Times, Test, Named, Keep, Aggregate, PartTree}
 use Rattle.gta_spec.specs.Keep.{kept_tests}
 use Rattle.spec_rules.specs.SpecRules.{first_answer}
 use Rattle.spec_tables.specs.Tables.{is_one_of}
+use Rattle.gta_types.specs.declared.declaring.InnerKind.{InnerKind}
+use Rattle.gta_types.specs.declared.declaring.InnerKind.TheVariants.{Element, State, Letter}
 use Rattle.gta_types.specs.declared.declaring.NameKind.{NameKind}
-use Rattle.gta_types.specs.declared.declaring.NameKind.TheVariants.{AColumn, ALabel, AMeasure, ATable, ATest, AnElement}
-use Rattle.gta_types.specs.declared.declaring.NameKind.TheVariants.{AnAutomaton, AState, ALetter}
+use Rattle.gta_types.specs.declared.declaring.NameKind.TheVariants.{AColumn, ALabel, AMeasure, ATable, AnAutomaton}
+use Rattle.gta_types.specs.declared.declaring.NameKind.TheVariants.{ATest, Inner}
+
+abbrev pub same_inner : InnerKind → InnerKind → Bool
+same_inner Element Element = true
+same_inner State State = true
+same_inner Letter Letter = true
+same_inner _ _ = false
 
 abbrev pub same_kind : NameKind → NameKind → Bool
 same_kind AColumn AColumn = true
@@ -26,9 +34,7 @@ same_kind AMeasure AMeasure = true
 same_kind ATable ATable = true
 same_kind ATest ATest = true
 same_kind AnAutomaton AnAutomaton = true
-same_kind AnElement AnElement = true
-same_kind AState AState = true
-same_kind ALetter ALetter = true
+same_kind (Inner a) (Inner b) = same_inner a b
 same_kind _ _ = false
 
 -- a name, what it is declared as, and the line that does so
@@ -45,9 +51,10 @@ abbrev pub declarations_of : ℕ → KindTree → List Declaration
 declarations_of line (Columns items) = map (λ item. declare line AColumn item.name) items
 declarations_of line (Labels names) = map (declare line ALabel) names
 declarations_of line (Measure part) = declare line AMeasure part.name ∷ []
-declarations_of line (Table part) = declare line ATable part.name ∷ map (declare line AnElement) part.elements
+declarations_of line (Table part) = declare line ATable part.name ∷ map (declare line (Inner Element)) part.elements
 declarations_of line (Automaton part) =
-    declare line AnAutomaton part.name ∷ (map (declare line AState) part.states ++ map (declare line ALetter) part.letters)
+    declare line AnAutomaton part.name
+    ∷ (map (declare line (Inner State)) part.states ++ map (declare line (Inner Letter)) part.letters)
 declarations_of line (Named name test) = declare line ATest name ∷ []
 declarations_of line _ = []
 
@@ -57,9 +64,7 @@ declarations parts = flat_map (λ part. declarations_of part.line part.kind) par
 
 -- whether a name is one of a list within a line: an element of a table, or a state or letter of an automaton
 abbrev pub is_inner : NameKind → Bool
-is_inner AnElement = true
-is_inner AState = true
-is_inner ALetter = true
+is_inner (Inner kind) = true
 is_inner _ = false
 
 -- whether two names may not be the same: names of one list within a line, or names that are in none
@@ -95,7 +100,7 @@ pub data Wanted : Type 0 where
   AutomatonName : Wanted
   -- a name of this kind within the line of this name, as an element is within that of its table; passed over where that
   -- is no such line
-  Within : NameKind → List ℕ → Wanted
+  Within : InnerKind → List ℕ → Wanted
   -- one of these names
   OneOf : List (List ℕ) → Wanted
 
@@ -126,12 +131,12 @@ uses_of_test line (Sum x check) = use_as line Weight x ∷ []
 uses_of_test line (Length check) = []
 uses_of_test line (Fold table picks accept) =
     use_as line TableName table
-    ∷ (flat_map (uses_of_pick line (Within AnElement table)) picks
-    ++ map (use_as line (Within AnElement table)) accept)
+    ∷ (flat_map (uses_of_pick line (Within Element table)) picks
+    ++ map (use_as line (Within Element table)) accept)
 uses_of_test line (Run automaton picks accept) =
     use_as line AutomatonName automaton
-    ∷ (flat_map (uses_of_pick line (Within ALetter automaton)) picks
-    ++ map (use_as line (Within AState automaton)) accept)
+    ∷ (flat_map (uses_of_pick line (Within Letter automaton)) picks
+    ++ map (use_as line (Within State automaton)) accept)
 
 abbrev pub use_of_rank : ℕ → RankPart → Use
 use_of_rank line rank = use_as line Weight rank.name
@@ -150,12 +155,12 @@ uses_of line (Measure part) = flat_map (uses_of_case line) part.cases
 uses_of line (Table part) = use_as line (OneOf part.elements) part.unit ∷ []
 uses_of line (Times part) =
     use_as line TableName part.table
-    ∷ map (use_as line (Within AnElement part.table)) (part.element ∷ part.products)
+    ∷ map (use_as line (Within Element part.table)) (part.element ∷ part.products)
 uses_of line (Automaton part) = use_as line (OneOf part.states) part.start ∷ []
 uses_of line (Step part) =
     use_as line AutomatonName part.automaton
-    ∷ (use_as line (Within ALetter part.automaton) part.letter
-    ∷ map (use_as line (Within AState part.automaton)) part.targets)
+    ∷ (use_as line (Within Letter part.automaton) part.letter
+    ∷ map (use_as line (Within State part.automaton)) part.targets)
 uses_of line (Test test) = uses_of_test line test
 uses_of line (Named name test) = uses_of_test line test
 uses_of line (Keep keep) = map (use_as line TestName) (kept_tests keep)
@@ -167,17 +172,16 @@ abbrev pub uses : List PartTree → List Use
 uses parts = flat_map (λ part. uses_of part.line part.kind) parts
 
 -- what the line is named as within which there are names of a kind
-abbrev pub home : NameKind → NameKind
-home AnElement = ATable
-home AState = AnAutomaton
-home ALetter = AnAutomaton
-home kind = kind
+abbrev pub home : InnerKind → NameKind
+home Element = ATable
+home State = AnAutomaton
+home Letter = AnAutomaton
 
 -- the names of a kind within a line, where it has this name
-abbrev pub inner_names : NameKind → KindTree → List ℕ → Option (List (List ℕ))
-inner_names AnElement (Table part) x = if bytes_eq part.name x then Some part.elements else None
-inner_names AState (Automaton part) x = if bytes_eq part.name x then Some part.states else None
-inner_names ALetter (Automaton part) x = if bytes_eq part.name x then Some part.letters else None
+abbrev pub inner_names : InnerKind → KindTree → List ℕ → Option (List (List ℕ))
+inner_names Element (Table part) x = if bytes_eq part.name x then Some part.elements else None
+inner_names State (Automaton part) x = if bytes_eq part.name x then Some part.states else None
+inner_names Letter (Automaton part) x = if bytes_eq part.name x then Some part.letters else None
 inner_names _ _ x = None
 
 abbrev pub listed : Option (List (List ℕ)) → List (List ℕ)
@@ -185,7 +189,7 @@ listed None = []
 listed (Some names) = names
 
 -- the names of a kind within the first line of a name
-abbrev pub names_within : NameKind → List PartTree → List ℕ → List (List ℕ)
+abbrev pub names_within : InnerKind → List PartTree → List ℕ → List (List ℕ)
 names_within kind parts x = listed (first_answer (λ before part. inner_names kind part.kind x) [] parts)
 
 abbrev pub is_of : NameKind → Option NameKind → Bool

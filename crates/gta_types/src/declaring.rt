@@ -3,12 +3,20 @@
 ghost use Rattle.std.specs.Prelude.{◌≡◌, [], ◌∷◌, ◌++◌, map, IfOk, OnOk};
 ghost use Rattle.gta_spec.specs.Parts.{kind_tree, part_tree};
 ghost use Rattle.gta_types.specs.Names.{declare, declarations_of, declarations};
-ghost use Rattle.gta_types.specs.Index.{declaration, scope_in, scope_of, found_of};
+ghost use Rattle.gta_types.specs.Index.{declaration, scope_within, scope_in, scope_of, found_of};
 
 use crate::names::Found;
 use gta_spec::{ColumnItem, Part, PartKind};
 use gta_text::Name;
 use std::alloc::{AllocError, Global};
+
+/// What a name within a line is declared as.
+#[derive(Clone, Copy, PartialEq, Eq, Debug)]
+pub(crate) enum InnerKind {
+    Element,
+    State,
+    Letter,
+}
 
 /// What a name is declared as.
 #[derive(Clone, Copy, PartialEq, Eq, Debug)]
@@ -17,11 +25,9 @@ pub(crate) enum NameKind {
     ALabel,
     AMeasure,
     ATable,
-    ATest,
     AnAutomaton,
-    AnElement,
-    AState,
-    ALetter,
+    ATest,
+    Inner(InnerKind),
 }
 
 /// A name, what it is declared as, and the line that does so.
@@ -50,14 +56,22 @@ impl<'a> Declared<'a> {
     }
 }
 
-/// Where a name of this kind is looked up that a line declares. The lists of names within lines are counted, two for
-/// each line.
-pub(crate) fn scope_in(kind: NameKind, line: u32) -> u64
+/// Where a name within a line is looked up. The lists of such names are counted, three for each line.
+pub(crate) fn scope_within(kind: InnerKind, line: u32) -> u64
+    ensures { result ≡ scope_within kind line }
+{
+    match kind {
+        InnerKind::Element => 3 * line as u64 + 1,
+        InnerKind::State => 3 * line as u64 + 2,
+        InnerKind::Letter => 3 * line as u64 + 3,
+    }
+}
+
+fn scope_in(kind: NameKind, line: u32) -> u64
     ensures { result ≡ scope_in kind line }
 {
     match kind {
-        NameKind::AnElement | NameKind::AState => 2 * line as u64 + 1,
-        NameKind::ALetter => 2 * line as u64 + 2,
+        NameKind::Inner(kind) => scope_within(kind, line),
         _ => 0,
     }
 }
@@ -90,12 +104,12 @@ fn declare_part<'a>(
         PartKind::Measure(part) => declare_one(all, line, NameKind::AMeasure, &part.name),
         PartKind::Table(part) => {
             declare_one(all, line, NameKind::ATable, &part.name)?;
-            declare_names(all, line, NameKind::AnElement, part.elements.as_slice())
+            declare_names(all, line, NameKind::Inner(InnerKind::Element), part.elements.as_slice())
         }
         PartKind::Automaton(part) => {
             declare_one(all, line, NameKind::AnAutomaton, &part.name)?;
-            declare_names(all, line, NameKind::AState, part.states.as_slice())?;
-            declare_names(all, line, NameKind::ALetter, part.letters.as_slice())
+            declare_names(all, line, NameKind::Inner(InnerKind::State), part.states.as_slice())?;
+            declare_names(all, line, NameKind::Inner(InnerKind::Letter), part.letters.as_slice())
         }
         PartKind::Named { name, .. } => declare_one(all, line, NameKind::ATest, name),
         _ => Ok(()),

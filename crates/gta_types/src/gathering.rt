@@ -11,16 +11,17 @@ ghost use Rattle.std.specs.List.{flat_map};
 
 use crate::lists::Lists;
 use gta_checked::Table;
-use gta_spec::{ColumnItem, Part, PartKind};
+use gta_spec::{AutomatonPart, ColumnItem, Part, PartKind};
 use gta_text::Name;
 use std::alloc::{AllocError, Global};
 
 /// Names as they are gathered.
 #[derive(Drop)]
-pub(crate) struct Gathered {
+pub(crate) struct Gathered<'a> {
     pub(crate) columns: Vec<ColumnItem>,
     pub(crate) labels: Vec<Name>,
     pub(crate) measures: Vec<Name>,
+    pub(crate) automata: Vec<&'a AutomatonPart>,
     pub(crate) tests: Vec<Name>,
 }
 
@@ -63,7 +64,11 @@ fn copy_items(
     Ok(())
 }
 
-fn gather_part(alloc: Global, gathered: &mut Gathered, kind: &PartKind) -> Result<(), AllocError>
+fn gather_part<'a>(
+    alloc: Global,
+    gathered: &mut Gathered<'a>,
+    kind: &'a PartKind,
+) -> Result<(), AllocError>
     ensures { OnOk result (HasGatheredMore (kind_tree kind.now) gathered.old gathered.new) }
 {
     match kind {
@@ -71,6 +76,10 @@ fn gather_part(alloc: Global, gathered: &mut Gathered, kind: &PartKind) -> Resul
         PartKind::Labels(names) => copy_names(alloc, &mut gathered.labels, names.as_slice()),
         PartKind::Measure(part) => {
             gathered.measures.push(copy_of(alloc, &part.name)?)?;
+            Ok(())
+        }
+        PartKind::Automaton(automaton) => {
+            gathered.automata.push(automaton)?;
             Ok(())
         }
         PartKind::Test(_) => {
@@ -85,13 +94,14 @@ fn gather_part(alloc: Global, gathered: &mut Gathered, kind: &PartKind) -> Resul
     }
 }
 
-fn gather(alloc: Global, parts: &[Part]) -> Result<Gathered, AllocError>
+fn gather<'a>(alloc: Global, parts: &'a [Part]) -> Result<Gathered<'a>, AllocError>
     ensures { IfOk result (HasGathered (map part_tree parts.now)) }
 {
     let mut gathered = Gathered {
         columns: Vec::new(alloc),
         labels: Vec::new(alloc),
         measures: Vec::new(alloc),
+        automata: Vec::new(alloc),
         tests: Vec::new(alloc),
     };
     for part in parts {
@@ -101,11 +111,11 @@ fn gather(alloc: Global, parts: &[Part]) -> Result<Gathered, AllocError>
 }
 
 /// The declared names of these lines, with the tables of their lines.
-pub(crate) fn lists_of(
+pub(crate) fn lists_of<'a>(
     alloc: Global,
-    parts: &[Part],
+    parts: &'a [Part],
     tables: Vec<Table>,
-) -> Result<Lists, AllocError>
+) -> Result<Lists<'a>, AllocError>
     requires few { HasFewNames (map part_tree parts.now) }
     requires few_tables { vec_len tables ≤ TABLE_LIMIT }
     requires within { All IsTableWithin (map plain_named tables.items) }
@@ -119,6 +129,7 @@ pub(crate) fn lists_of(
         columns,
         labels,
         measures,
+        automata,
         tests,
     } = gather(alloc, parts)?;
     Ok(Lists {
@@ -126,6 +137,7 @@ pub(crate) fn lists_of(
         labels,
         measures,
         tables,
+        automata,
         tests,
     })
 }

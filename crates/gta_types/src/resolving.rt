@@ -3,13 +3,15 @@
 ghost use Rattle.std.specs.Prelude.{◌≡◌, ℕ, ◌<◌, ◌≤◌, ◌^◌, List, length, map, IfOk, false};
 ghost use Rattle.std.specs.List.{range_with_len};
 ghost use Rattle.monoid_kit.specs.declared.table.TheConstants.{GREATEST_TABLE};
+ghost use Rattle.auto_monoid.specs.declared.auto.TheConstants.{LETTER_LIMIT, STATE_LIMIT};
 ghost use Rattle.gta_spec.specs.Keep.{keep_map};
-ghost use Rattle.gta_spec.specs.Parts.{Aggregate, Fold, case_tree, keep_tree, pick_tree, test_tree};
+ghost use Rattle.gta_spec.specs.Parts.{Aggregate, Fold, Run, case_tree, keep_tree, pick_tree, test_tree};
 ghost use Rattle.gta_spec.specs.WellFormed.{EachFits};
 ghost use Rattle.gta_checked.specs.Plain.{plain_case, plain_keep, plain_measure, plain_pick, plain_test};
 ghost use Rattle.spec_rules.specs.SpecRules.{is_kept_past};
 ghost use Rattle.spec_tables.specs.Tables.{number_of};
-ghost use Rattle.gta_types.specs.Resolved.{elements_in, number_of_weight, signed, factor_of};
+ghost use Rattle.gta_types.specs.Resolved.{elements_in, letters_listed, states_listed, automaton_named};
+ghost use Rattle.gta_types.specs.Resolved.{number_of_weight, signed, factor_of};
 ghost use Rattle.gta_types.specs.Resolved.{resolved_term, resolved_atom, resolved_case, resolved_pick};
 ghost use Rattle.gta_types.specs.Resolved.{resolved_test, resolved_rank, resolved_goal, column_measure};
 ghost use Rattle.gta_types.specs.Ready.{IsFactorReady, IsCaseReady};
@@ -18,7 +20,7 @@ ghost use Rattle.gta_types.specs.Lists.{environment_of};
 use crate::lists::Lists;
 use gta_checked::{Atom, Case, Goal, Keep, Measure, Pick, Rank, Table, Term, Test};
 use gta_spec::{
-    AtomPart, CasePart, ColumnItem, GoalPart, KeepPart, PickPart, RankPart, TermPart, TestPart,
+    AtomPart, AutomatonPart, CasePart, ColumnItem, GoalPart, KeepPart, PickPart, RankPart, TermPart, TestPart,
 };
 use gta_text::Name;
 use spec_tables::number_in;
@@ -180,7 +182,7 @@ pub(crate) fn column_measures(alloc: Global, columns: u32) -> Result<Vec<Measure
 }
 
 /// The elements of the table of a number; none where it is past the last.
-fn elements_at(lists: &Lists, number: u32) -> &[Name]
+fn elements_at<'n>(lists: &'n Lists, number: u32) -> &'n [Name]
     ensures few { length result.now ≤ GREATEST_TABLE }
     ensures elements { (name : List ℕ) → number ≡ number_of (map (λ table. table.name) lists.now.tables.items) name
         → result.now ≡ elements_in (environment_of lists.now).tables name }
@@ -236,6 +238,45 @@ fn numbers_of(alloc: Global, elements: &[Name], names: &[Name]) -> Result<Vec<u3
     Ok(numbers)
 }
 
+/// The number of the first automaton of a name; that of the automata where it is none.
+fn automaton_number(automata: &[&AutomatonPart], name: &Name) -> u32
+    requires { length automata.now < 2 ^ 32 }
+    ensures { result ≡ number_of (map (λ line. line.now.name) automata.now) name.now }
+{
+    for (number, automaton) in automata.iter().enumerate() {
+        if automaton.name.bytes() == name.bytes() {
+            return number as u32;
+        }
+    }
+    automata.len() as u32
+}
+
+/// The letters of the first automaton of a name; none where there is no such automaton.
+fn letters_of<'a>(lists: &Lists<'a>, name: &Name) -> &'a [Name]
+    ensures few { length result.now ≤ LETTER_LIMIT }
+    ensures letters { result.now ≡ letters_listed (automaton_named (environment_of lists.now).automata name.now) }
+{
+    for automaton in lists.automata.as_slice() {
+        if automaton.name.bytes() == name.bytes() {
+            return automaton.letters.as_slice();
+        }
+    }
+    &[]
+}
+
+/// The states of the first automaton of a name; none where there is no such automaton.
+fn states_of<'a>(lists: &Lists<'a>, name: &Name) -> &'a [Name]
+    ensures few { length result.now ≤ STATE_LIMIT }
+    ensures states { result.now ≡ states_listed (automaton_named (environment_of lists.now).automata name.now) }
+{
+    for automaton in lists.automata.as_slice() {
+        if automaton.name.bytes() == name.bytes() {
+            return automaton.states.as_slice();
+        }
+    }
+    &[]
+}
+
 /// A fold: its table's number, and its elements by their numbers in that table.
 fn resolve_fold(
     alloc: Global,
@@ -253,6 +294,24 @@ fn resolve_fold(
         table,
         picks: resolve_picks(alloc, lists, elements, picks)?,
         accept: numbers_of(alloc, elements, accept)?,
+    })
+}
+
+/// A run: its automaton's number, and its letters and states by their numbers in that automaton.
+fn resolve_run(
+    alloc: Global,
+    lists: &Lists,
+    name: &Name,
+    picks: &[PickPart],
+    accept: &[Name],
+) -> Result<Test, AllocError>
+    ensures { IfOk result (λ test. plain_test test ≡ resolved_test (environment_of lists.now)
+        (Run name.now (map pick_tree picks.now) accept.now)) }
+{
+    Ok(Test::Run {
+        automaton: automaton_number(lists.automata.as_slice(), name),
+        picks: resolve_picks(alloc, lists, letters_of(lists, name), picks)?,
+        accept: numbers_of(alloc, states_of(lists, name), accept)?,
     })
 }
 
@@ -275,6 +334,11 @@ pub(crate) fn resolve_test(
             picks,
             accept,
         } => resolve_fold(alloc, lists, table, picks.as_slice(), accept.as_slice()),
+        TestPart::Run {
+            automaton,
+            picks,
+            accept,
+        } => resolve_run(alloc, lists, automaton, picks.as_slice(), accept.as_slice()),
     }
 }
 

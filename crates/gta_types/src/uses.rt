@@ -12,7 +12,7 @@ ghost use Rattle.gta_types.specs.Names.{home, TestName, Within};
 ghost use Rattle.spec_tables.specs.Tables.{is_one_of};
 ghost use Rattle.gta_types.specs.Index.{place, known_at, known_by, has_inner, unknown_in, wanted_of};
 
-use crate::declaring::{NameKind, scope_in};
+use crate::declaring::{InnerKind, NameKind, scope_within};
 use crate::names::{Found, Names, Place};
 use gta_spec::{
     AtomPart, CasePart, GoalPart, KeepPart, Part, PartKind, PickPart, RankPart, StepPart, TermPart,
@@ -53,22 +53,22 @@ fn is_one_of(names: &[Name], name: &Name) -> bool
 }
 
 /// What a line is named as within which there are names of a kind.
-fn home(kind: NameKind) -> NameKind
+fn home(kind: InnerKind) -> NameKind
     ensures { result ≡ home kind }
 {
     match kind {
-        NameKind::AnElement => NameKind::ATable,
-        NameKind::AState | NameKind::ALetter => NameKind::AnAutomaton,
-        kind => kind,
+        InnerKind::Element => NameKind::ATable,
+        InnerKind::State => NameKind::AnAutomaton,
+        InnerKind::Letter => NameKind::AnAutomaton,
     }
 }
 
-fn has_inner<'a>(names: &Names<'a>, kind: NameKind, of: Option<Found>, name: &'a Name) -> bool
+fn has_inner<'a>(names: &Names<'a>, kind: InnerKind, of: Option<Found>, name: &'a Name) -> bool
     ensures { result ≡ has_inner names.now kind of name.now }
 {
     match of {
         Some(line) if line.kind == home(kind) => {
-            names.look(scope_in(kind, line.line), name.bytes()).is_some()
+            names.look(scope_within(kind, line.line), name.bytes()).is_some()
         }
         _ => true,
     }
@@ -111,7 +111,7 @@ fn unknown<'a>(
 fn unknown_inner<'a>(
     names: &Names<'a>,
     line: u32,
-    kind: NameKind,
+    kind: InnerKind,
     of: Option<Found>,
     name: &'a Name,
 ) -> Option<Place<'a>>
@@ -194,7 +194,7 @@ fn in_cases<'a>(names: &Names<'a>, line: u32, cases: &'a [CasePart]) -> Option<P
 fn in_pick<'a>(
     names: &Names<'a>,
     line: u32,
-    kind: NameKind,
+    kind: InnerKind,
     of: Option<Found>,
     pick: &'a PickPart,
 ) -> Option<Place<'a>>
@@ -211,7 +211,7 @@ fn in_pick<'a>(
 fn in_picks<'a>(
     names: &Names<'a>,
     line: u32,
-    kind: NameKind,
+    kind: InnerKind,
     of: Option<Found>,
     picks: &'a [PickPart],
 ) -> Option<Place<'a>>
@@ -230,7 +230,7 @@ fn in_picks<'a>(
 fn in_inner_names<'a>(
     names: &Names<'a>,
     line: u32,
-    kind: NameKind,
+    kind: InnerKind,
     of: Option<Found>,
     used: &'a [Name],
 ) -> Option<Place<'a>>
@@ -251,8 +251,8 @@ fn in_picks_and_accepted<'a>(
     names: &Names<'a>,
     line: u32,
     of: Option<Found>,
-    (picked, picks): (NameKind, &'a [PickPart]),
-    (accepted, accept): (NameKind, &'a [Name]),
+    (picked, picks): (InnerKind, &'a [PickPart]),
+    (accepted, accept): (InnerKind, &'a [Name]),
 ) -> Option<Place<'a>>
     ensures { (home : List ℕ) → known_at names.now 0 home ≡ of → option_map place result
         ≡ unknown_in names.now (flat_map (uses_of_pick line (Within picked home)) (map pick_tree picks.now)
@@ -281,7 +281,7 @@ fn in_fold<'a>(
     }
     // The table is looked up once: its name may be long, and its elements many.
     let of = names.look(0, table.bytes());
-    let element = NameKind::AnElement;
+    let element = InnerKind::Element;
     in_picks_and_accepted(names, line, of, (element, picks), (element, accept))
 }
 
@@ -300,7 +300,7 @@ fn in_run<'a>(
         return found;
     }
     let of = names.look(0, automaton.bytes());
-    in_picks_and_accepted(names, line, of, (NameKind::ALetter, picks), (NameKind::AState, accept))
+    in_picks_and_accepted(names, line, of, (InnerKind::Letter, picks), (InnerKind::State, accept))
 }
 
 fn in_test<'a>(names: &Names<'a>, line: u32, test: &'a TestPart) -> Option<Place<'a>>
@@ -373,11 +373,11 @@ fn in_times<'a>(names: &Names<'a>, line: u32, times: &'a TimesPart) -> Option<Pl
         return found;
     }
     let of = names.look(0, times.table.bytes());
-    let found_element = unknown_inner(names, line, NameKind::AnElement, of, &times.element);
+    let found_element = unknown_inner(names, line, InnerKind::Element, of, &times.element);
     if found_element.is_some() {
         return found_element;
     }
-    in_inner_names(names, line, NameKind::AnElement, of, times.products.as_slice())
+    in_inner_names(names, line, InnerKind::Element, of, times.products.as_slice())
 }
 
 fn in_step<'a>(names: &Names<'a>, line: u32, step: &'a StepPart) -> Option<Place<'a>>
@@ -388,11 +388,11 @@ fn in_step<'a>(names: &Names<'a>, line: u32, step: &'a StepPart) -> Option<Place
         return found;
     }
     let of = names.look(0, step.automaton.bytes());
-    let found_letter = unknown_inner(names, line, NameKind::ALetter, of, &step.letter);
+    let found_letter = unknown_inner(names, line, InnerKind::Letter, of, &step.letter);
     if found_letter.is_some() {
         return found_letter;
     }
-    in_inner_names(names, line, NameKind::AState, of, step.targets.as_slice())
+    in_inner_names(names, line, InnerKind::State, of, step.targets.as_slice())
 }
 
 fn in_part<'a>(names: &Names<'a>, line: u32, kind: &'a PartKind) -> Option<Place<'a>>
