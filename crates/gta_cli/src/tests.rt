@@ -1,7 +1,8 @@
 //! The worked examples over the top call: what is printed and where, limits of the input, and faults at each call.
 //! tests/specs.rt has those of specifications, with `show`; tests/table.rt those of tables, tests/shapes.rt those of
 //! what is generated, tests/answers.rt and tests/folds.rt those of tests and aggregates, tests/best.rt those of the
-//! best candidates, and tests/commands.rt those of the other commands. tests/cuts.rt has inputs and lines that are cut,
+//! best candidates, tests/keep.rt and tests/runs.rt those of versions 2 and 3, and tests/commands.rt those of the
+//! other commands. tests/cuts.rt has inputs and lines that are cut,
 //! tests/faults.rt calls that fail in turn.
 
 mod answers;
@@ -11,6 +12,7 @@ mod cuts;
 mod faults;
 mod folds;
 mod keep;
+mod runs;
 mod shapes;
 mod specs;
 mod table;
@@ -215,7 +217,8 @@ fn words_that_are_no_command(rt: HostRuntime) -> Result<(), Fail> {
 fn the_most_bytes(rt: HostRuntime) -> Result<(), Fail> {
     let first: &[u8] = b"gta 1\ncolumns v\ngenerate sublists\naggregate max v\nrows\nv\n7\n";
     let second: &[u8] = b"gta 2\ncolumns v\ngenerate sublists\naggregate max v\nrows\nv\n7\n";
-    let cases: [(&[u8], u32, &[u8], &[u8]); 6] = [
+    let third: &[u8] = b"gta 3\ncolumns v\ngenerate sublists\naggregate max v\nrows\nv\n7\n";
+    let cases: [(&[u8], u32, &[u8], &[u8]); 7] = [
         (first, 16_777_216, b"answer 7\n", b""),
         (
             first,
@@ -230,6 +233,7 @@ fn the_most_bytes(rt: HostRuntime) -> Result<(), Fail> {
             b"refused 45: input past 67108864 bytes\n",
         ),
         (second, 16_777_217, b"answer 7\n", b""),
+        (third, 16_777_217, b"answer 7\n", b""),
         (second, 67_108_864, b"answer 7\n", b""),
         (
             second,

@@ -4,6 +4,7 @@ use Rattle.outcome_kit.specs.Outcome.{and_then, Carries}
 use Rattle.outcome_kit.proofs.Outcomes.{and_then-Carries}
 use Rattle.gta_checked.specs.PlainRows.{PlainRows}
 use Rattle.gta_checked.specs.Plain.{PlainChecked}
+use Rattle.spec_automata.specs.declared.fault.AutomataFault.TheVariants as automata
 use Rattle.spec_tables.specs.declared.fault.TablesFault.TheVariants as tables
 use Rattle.gta_syntax.specs.declared.fault.SpecFault.{SpecFault}
 use Rattle.gta_syntax.specs.declared.fault.SpecFault.TheVariants as reads
@@ -56,6 +57,9 @@ module _ {T : Type 0} where
   checking-ends outcome (checks.Table (tables.NotAssociative table a b c)) is = ap (told_by end_of_checking) is
   checking-ends outcome (checks.Table (tables.NotSquare table element)) is = ap (told_by end_of_checking) is
   checking-ends outcome (checks.Table tables.Memory) is = tt
+  checking-ends outcome (checks.Automaton (automata.NotTotal name letter)) is = ap (told_by end_of_checking) is
+  checking-ends outcome (checks.Automaton (automata.TooMany name)) is = ap (told_by end_of_checking) is
+  checking-ends outcome (checks.Automaton automata.Memory) is = tt
   checking-ends outcome checks.Memory is = tt
 
   pub table-ends : (outcome : Result T RowsFault) (fault : RowsFault) → Carries outcome (rows.fault_in fault)

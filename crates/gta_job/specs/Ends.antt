@@ -3,6 +3,8 @@ use Rattle.std.specs.Prelude.{Option, Some, None, Result, Ok, Err}
 use Rattle.outcome_kit.specs.Outcome as outcomes
 use Rattle.gta_syntax.specs.declared.fault.SpecFault.{SpecFault}
 use Rattle.gta_syntax.specs.declared.fault.SpecFault.TheVariants as reading
+use Rattle.spec_automata.specs.declared.fault.AutomataFault.{AutomataFault}
+use Rattle.spec_automata.specs.declared.fault.AutomataFault.TheVariants as automata
 use Rattle.spec_tables.specs.declared.fault.TablesFault.{TablesFault}
 use Rattle.spec_tables.specs.declared.fault.TablesFault.TheVariants as tables
 use Rattle.gta_types.specs.declared.fault.CheckFault.{CheckFault}
@@ -31,6 +33,12 @@ end_of_tables (tables.NotAssociative table a b c) = Refused (refusals.NotAssocia
 end_of_tables (tables.NotSquare table element) = Refused (refusals.NotSquare table element)
 end_of_tables tables.Memory = Memory
 
+-- what a fault of the automata ends a job with
+abbrev pub end_of_automata : AutomataFault → JobEnd
+end_of_automata (automata.NotTotal name letter) = Refused (refusals.Automaton name (Some letter))
+end_of_automata (automata.TooMany name) = Refused (refusals.Automaton name None)
+end_of_automata automata.Memory = Memory
+
 -- what a fault of checking ends a job with
 abbrev pub end_of_checking : CheckFault → JobEnd
 end_of_checking (checking.Unknown line name) = Refused (refusals.Unknown line name)
@@ -40,6 +48,7 @@ end_of_checking (checking.SecondPart line part) = Refused (refusals.SecondPart l
 end_of_checking (checking.LabelsAssign line assign) = Refused (refusals.LabelsAssign line assign)
 end_of_checking (checking.Limit line limit) = Refused (refusals.Limit line limit)
 end_of_checking (checking.Table fault) = end_of_tables fault
+end_of_checking (checking.Automaton fault) = end_of_automata fault
 end_of_checking checking.Memory = Memory
 
 -- what a fault of the table ends a job with

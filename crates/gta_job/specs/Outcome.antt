@@ -34,7 +34,7 @@ use Rattle.gta_job.specs.Sizes.{keys_refusal, size_refusal}
 -- whether this version takes inputs past the limit of the first
 abbrev pub is_large : Option ℕ → Bool
 is_large None = false
-is_large (Some version) = version == 2
+is_large (Some version) = nat_lt 1 version
 
 -- the refusal of an input of too many bytes: more than any version takes, or than the version takes that its first line
 -- with tokens names

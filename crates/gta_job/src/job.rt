@@ -15,6 +15,7 @@ use gta_rows::RowsFault;
 use gta_syntax::SpecFault;
 use gta_types::CheckFault;
 use report_text::Refusal;
+use spec_automata::AutomataFault;
 use spec_tables::TablesFault;
 use std::alloc::{AllocError, Global};
 use std::thread::Threads;
@@ -89,6 +90,26 @@ impl From<TablesFault> for JobEnd {
     }
 }
 
+impl From<AutomataFault> for JobEnd {
+    ghost use Rattle.gta_job.specs.Ends.{end_of_automata};
+
+    ghost from_gives = { λ fault end. end ≡ end_of_automata fault };
+
+    fn from(fault: AutomataFault) -> JobEnd {
+        match fault {
+            AutomataFault::NotTotal { automaton, letter } => JobEnd::Refused(Refusal::Automaton {
+                name: automaton,
+                letter: Some(letter),
+            }),
+            AutomataFault::TooMany { automaton } => JobEnd::Refused(Refusal::Automaton {
+                name: automaton,
+                letter: None,
+            }),
+            AutomataFault::Memory => JobEnd::Memory,
+        }
+    }
+}
+
 impl From<CheckFault> for JobEnd {
     ghost use Rattle.gta_job.specs.Ends.{end_of_checking};
 
@@ -107,6 +128,7 @@ impl From<CheckFault> for JobEnd {
             }
             CheckFault::Limit { line, limit } => JobEnd::Refused(Refusal::Limit { line, limit }),
             CheckFault::Table(fault) => JobEnd::from(fault),
+            CheckFault::Automaton(fault) => JobEnd::from(fault),
             CheckFault::Memory => JobEnd::Memory,
         }
     }

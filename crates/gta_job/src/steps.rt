@@ -44,7 +44,10 @@ fn refuse_input(alloc: Global, bytes: &[u8]) -> Result<(), JobEnd>
 fn is_large(version: Option<u8>) -> bool
     ensures { result ≡ outcomes.is_large version }
 {
-    version == Some(2)
+    match version {
+        Some(version) => version > 1,
+        None => false,
+    }
 }
 
 /// The refusal of an input past this limit.

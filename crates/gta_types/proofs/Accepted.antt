@@ -7,22 +7,25 @@ use Rattle.std.proofs.lemmas.List.{length-map, length-append}
 use Rattle.std.proofs.lemmas.List.FromFn.{length-range_with_len, get_or-range_with_len}
 use Rattle.std.proofs.lemmas.List.Elements.{All-nil, All-cons, All-append, All-map}
 use Rattle.std.proofs.lemmas.Bool.{ltb-false, not-false}
-use Rattle.gta_spec.specs.declared.limits.TheConstants.{ATOM_LIMIT, CASE_LIMIT, ELEMENT_LIMIT, KEEP_LIMIT}
+use Rattle.gta_spec.specs.declared.limits.TheConstants.{ATOM_LIMIT, AUTOMATON_LIMIT, CASE_LIMIT, ELEMENT_LIMIT}
+use Rattle.gta_spec.specs.declared.limits.TheConstants.{KEEP_LIMIT, LETTER_LIMIT, STATE_LIMIT}
 use Rattle.gta_spec.specs.declared.limits.TheConstants.{MEASURE_LIMIT}
 use Rattle.gta_spec.specs.declared.limits.TheConstants.{TABLE_LIMIT, TEST_LIMIT}
 use Rattle.gta_spec.specs.declared.parts.GoalPart.{GoalPart}
 use Rattle.gta_spec.specs.declared.parts.GoalPart.TheVariants as goals
 use Rattle.gta_spec.specs.declared.parts.RankPart.{RankPart}
 use Rattle.gta_spec.specs.Keep.{KeepTree, kept_tests}
-use Rattle.gta_spec.specs.Parts.{Sum, Length, Fold, KindTree, Columns, Labels, Measure, Table}
-use Rattle.gta_spec.specs.Parts.{Times, Generate, Test, Named, Keep, Aggregate, PartTree, TestTree}
+use Rattle.gta_spec.specs.Parts.{Sum, Length, Fold, Run, KindTree, Columns, Labels, Measure, Table}
+use Rattle.gta_spec.specs.Parts.{Times, Automaton, Step, Generate, Test, Named, Keep, Aggregate, PartTree, TestTree}
 use Rattle.gta_spec.specs.WellFormed.{EachFits, FitsKind, FitParts}
 use Rattle.gta_checked.specs.declared.resolved.Rank.{Rank}
 use Rattle.gta_checked.specs.Plain.{PlainCase, PlainTest}
 use Rattle.gta_checked.specs.Within.{IsTermWithin, IsAtomWithin, IsCaseWithin, IsMeasureWithin}
 use Rattle.gta_checked.specs.Within.{IsTestWithin, IsKeptWithin, IsGoalWithin, IsKeepWithin}
 use Rattle.spec_rules.specs.declared.fault.Limit.TheVariants as limits
-use Rattle.spec_rules.specs.SpecRules.{is_table, is_measure, is_test, earlier, is_longer, is_kept_past}
+use Rattle.spec_automata.specs.Automata.{automata_in, automaton_parts}
+use Rattle.spec_automata.specs.Ready.{IsReadyAutomaton}
+use Rattle.spec_rules.specs.SpecRules.{is_automaton, is_table, is_measure, is_test, earlier, is_longer, is_kept_past}
 use Rattle.spec_rules.specs.SpecRules.{are_picks_past, test_conditions, test_checks}
 use Rattle.spec_rules.specs.SpecRules.{is_bound_past, is_modulus_past, is_residue_past}
 use Rattle.spec_tables.specs.Ready.{IsReadyTable}
@@ -32,6 +35,7 @@ use Rattle.gta_types.specs.Resolved.{number_of_weight, column_items, measure_nam
 use Rattle.gta_types.specs.Resolved.{resolved_case, resolved_test, resolved_rank, resolved_goal, column_measure}
 use Rattle.gta_types.specs.Resolved.{declared_measures, tests_of, named_of, keeps_of, first_of, measures_of}
 use Rattle.gta_types.proofs.Folds.{tables_of, fold_within}
+use Rattle.gta_types.proofs.Runs.{automata_of, run_within}
 use Rattle.gta_types.proofs.KeptTests.{tests_declared}
 use Rattle.gta_types.proofs.Rules.{Kept, AllKept, few_lines, length_lines}
 use Rattle.gta_types.proofs.InRange.{weight_in}
@@ -72,6 +76,8 @@ measure_pick before (Labels xs) kept = refl
 measure_pick before (Measure part) kept = kept limits.Measures
 measure_pick before (Table part) kept = refl
 measure_pick before (Times part) kept = refl
+measure_pick before (Automaton part) kept = refl
+measure_pick before (Step part) kept = refl
 measure_pick before (Generate shape) kept = refl
 measure_pick before (Test test) kept = refl
 measure_pick before (Named name test) kept = refl
@@ -85,6 +91,8 @@ test_pick before (Labels xs) kept = refl
 test_pick before (Measure part) kept = refl
 test_pick before (Table part) kept = refl
 test_pick before (Times part) kept = refl
+test_pick before (Automaton part) kept = refl
+test_pick before (Step part) kept = refl
 test_pick before (Generate shape) kept = refl
 test_pick before (Test test) kept = kept limits.Tests
 test_pick before (Named name test) kept = kept limits.Tests
@@ -98,11 +106,28 @@ table_pick before (Labels xs) kept = refl
 table_pick before (Measure part) kept = refl
 table_pick before (Table part) kept = kept limits.Tables
 table_pick before (Times part) kept = refl
+table_pick before (Automaton part) kept = refl
+table_pick before (Step part) kept = refl
 table_pick before (Generate shape) kept = refl
 table_pick before (Test test) kept = refl
 table_pick before (Named name test) kept = refl
 table_pick before (Keep keep) kept = refl
 table_pick before (Aggregate goal) kept = refl
+
+automaton_pick : (before : List PartTree) (kind : KindTree) → Kept (earlier before kind) kind
+    → (is_automaton kind && leb AUTOMATON_LIMIT (length (filter (λ line. is_automaton line.kind) before))) ≡ false
+automaton_pick before (Columns items) kept = refl
+automaton_pick before (Labels xs) kept = refl
+automaton_pick before (Measure part) kept = refl
+automaton_pick before (Table part) kept = refl
+automaton_pick before (Times part) kept = refl
+automaton_pick before (Automaton part) kept = kept limits.Automata
+automaton_pick before (Step part) kept = refl
+automaton_pick before (Generate shape) kept = refl
+automaton_pick before (Test test) kept = refl
+automaton_pick before (Named name test) kept = refl
+automaton_pick before (Keep keep) kept = refl
+automaton_pick before (Aggregate goal) kept = refl
 
 one_measure_name : (kind : KindTree) → length (measure_names kind) ≡ cond (is_measure kind) 1 0
 one_measure_name (Columns items) = refl
@@ -110,6 +135,8 @@ one_measure_name (Labels xs) = refl
 one_measure_name (Measure part) = refl
 one_measure_name (Table part) = refl
 one_measure_name (Times part) = refl
+one_measure_name (Automaton part) = refl
+one_measure_name (Step part) = refl
 one_measure_name (Generate shape) = refl
 one_measure_name (Test test) = refl
 one_measure_name (Named name test) = refl
@@ -123,6 +150,8 @@ one_measure all (Labels xs) = refl
 one_measure all (Measure part) = refl
 one_measure all (Table part) = refl
 one_measure all (Times part) = refl
+one_measure all (Automaton part) = refl
+one_measure all (Step part) = refl
 one_measure all (Generate shape) = refl
 one_measure all (Test test) = refl
 one_measure all (Named name test) = refl
@@ -135,6 +164,8 @@ one_test all (Labels xs) = refl
 one_test all (Measure part) = refl
 one_test all (Table part) = refl
 one_test all (Times part) = refl
+one_test all (Automaton part) = refl
+one_test all (Step part) = refl
 one_test all (Generate shape) = refl
 one_test all (Test test) = refl
 one_test all (Named name test) = refl
@@ -147,6 +178,8 @@ one_test_name (Labels xs) = refl
 one_test_name (Measure part) = refl
 one_test_name (Table part) = refl
 one_test_name (Times part) = refl
+one_test_name (Automaton part) = refl
+one_test_name (Step part) = refl
 one_test_name (Generate shape) = refl
 one_test_name (Test test) = refl
 one_test_name (Named name test) = refl
@@ -159,6 +192,8 @@ one_named (Labels xs) = refl
 one_named (Measure part) = refl
 one_named (Table part) = refl
 one_named (Times part) = refl
+one_named (Automaton part) = refl
+one_named (Step part) = refl
 one_named (Generate shape) = refl
 one_named (Test test) = refl
 one_named (Named name test) = refl
@@ -171,11 +206,27 @@ one_table (Labels xs) = refl
 one_table (Measure part) = refl
 one_table (Table part) = refl
 one_table (Times part) = refl
+one_table (Automaton part) = refl
+one_table (Step part) = refl
 one_table (Generate shape) = refl
 one_table (Test test) = refl
 one_table (Named name test) = refl
 one_table (Keep keep) = refl
 one_table (Aggregate goal) = refl
+
+one_automaton : (kind : KindTree) → length (automaton_parts kind) ≡ cond (is_automaton kind) 1 0
+one_automaton (Columns items) = refl
+one_automaton (Labels xs) = refl
+one_automaton (Measure part) = refl
+one_automaton (Table part) = refl
+one_automaton (Times part) = refl
+one_automaton (Automaton part) = refl
+one_automaton (Step part) = refl
+one_automaton (Generate shape) = refl
+one_automaton (Test test) = refl
+one_automaton (Named name test) = refl
+one_automaton (Keep keep) = refl
+one_automaton (Aggregate goal) = refl
 
 pub few_measure_names : (all : List PartTree) → AllKept [] all → length (environment all).measures ≤ MEASURE_LIMIT
 few_measure_names all kept =
@@ -214,6 +265,12 @@ few_tables all kept =
     let len = length_lines is_table TABLE_LIMIT table_pick table_parts one_table all in
     omega (arith, few, len)
 
+pub few_automata : (all : List PartTree) → AllKept [] all → length (automata_in all) ≤ AUTOMATON_LIMIT
+few_automata all kept =
+    let few = few_lines is_automaton AUTOMATON_LIMIT automaton_pick all kept in
+    let len = length_lines is_automaton AUTOMATON_LIMIT automaton_pick automaton_parts one_automaton all in
+    omega (arith, few, len)
+
 pub measures_length : (all : List PartTree)
     → length (measures_of all) ≡ length (environment all).columns + length (environment all).measures
 measures_length all =
@@ -240,7 +297,8 @@ abbrev pub MeasureWithin : List PartTree → List PlainCase → Type 0
 MeasureWithin all = IsMeasureWithin (column_count all) (label_count all)
 
 abbrev pub TestWithin : List PartTree → PlainTest → Type 0
-TestWithin all = IsTestWithin (column_count all) (label_count all) (length (measures_of all)) (tables_of all)
+TestWithin all =
+    IsTestWithin (column_count all) (label_count all) (length (measures_of all)) (tables_of all) (automata_of all)
 
 measures_of_line : (all : List PartTree) (line : ℕ) (kind : KindTree) → LineFacts all line kind
     → All (MeasureWithin all) (declared_measures (environment all) kind)
@@ -256,6 +314,8 @@ measures_of_line all line (Measure part) facts =
     (All-nil (MeasureWithin all))
 measures_of_line all line (Table part) facts = All-nil (MeasureWithin all)
 measures_of_line all line (Times part) facts = All-nil (MeasureWithin all)
+measures_of_line all line (Automaton part) facts = All-nil (MeasureWithin all)
+measures_of_line all line (Step part) facts = All-nil (MeasureWithin all)
 measures_of_line all line (Generate shape) facts = All-nil (MeasureWithin all)
 measures_of_line all line (Test test) facts = All-nil (MeasureWithin all)
 measures_of_line all line (Named name test) facts = All-nil (MeasureWithin all)
@@ -307,6 +367,8 @@ test_within all line (Length check) facts =
     check_within check (one_check _ facts.bound) (one_check _ facts.modulus) (one_check _ facts.residue)
 test_within all line (Fold table picks accept) facts =
     fold_within all line table picks accept facts.cases facts.atoms facts.known
+test_within all line (Run automaton picks accept) facts =
+    run_within all line automaton picks accept facts.cases facts.atoms facts.known
 
 tests_of_line : (all : List PartTree) (line : ℕ) (kind : KindTree) → LineFacts all line kind
     → All (TestWithin all) (tests_of (environment all) kind)
@@ -315,6 +377,8 @@ tests_of_line all line (Labels xs) facts = All-nil (TestWithin all)
 tests_of_line all line (Measure part) facts = All-nil (TestWithin all)
 tests_of_line all line (Table part) facts = All-nil (TestWithin all)
 tests_of_line all line (Times part) facts = All-nil (TestWithin all)
+tests_of_line all line (Automaton part) facts = All-nil (TestWithin all)
+tests_of_line all line (Step part) facts = All-nil (TestWithin all)
 tests_of_line all line (Generate shape) facts = All-nil (TestWithin all)
 tests_of_line all line (Test test) facts =
     All-cons (TestWithin all) _ [] (test_within all line test (kept_test facts)) (All-nil (TestWithin all))
@@ -370,6 +434,8 @@ keeps_of_line all line (Labels xs) facts = All-nil (KeepWithin all)
 keeps_of_line all line (Measure part) facts = All-nil (KeepWithin all)
 keeps_of_line all line (Table part) facts = All-nil (KeepWithin all)
 keeps_of_line all line (Times part) facts = All-nil (KeepWithin all)
+keeps_of_line all line (Automaton part) facts = All-nil (KeepWithin all)
+keeps_of_line all line (Step part) facts = All-nil (KeepWithin all)
 keeps_of_line all line (Generate shape) facts = All-nil (KeepWithin all)
 keeps_of_line all line (Test test) facts = All-nil (KeepWithin all)
 keeps_of_line all line (Named name test) facts = All-nil (KeepWithin all)
@@ -453,11 +519,38 @@ ready_of_line all line (Table part) facts = (
   tt,
 )
 ready_of_line all line (Times part) facts = tt
+ready_of_line all line (Automaton part) facts = tt
+ready_of_line all line (Step part) facts = tt
 ready_of_line all line (Generate shape) facts = tt
 ready_of_line all line (Test test) facts = tt
 ready_of_line all line (Named name test) facts = tt
 ready_of_line all line (Keep keep) facts = tt
 ready_of_line all line (Aggregate goal) facts = tt
+
+-- each automaton is ready for its moves to be looked at
+ready_automaton : (all : List PartTree) (line : ℕ) (kind : KindTree) → LineFacts all line kind
+    → EachFits IsReadyAutomaton (automaton_parts kind)
+ready_automaton all line (Columns items) facts = tt
+ready_automaton all line (Labels xs) facts = tt
+ready_automaton all line (Measure part) facts = tt
+ready_automaton all line (Table part) facts = tt
+ready_automaton all line (Times part) facts = tt
+ready_automaton all line (Automaton part) facts = (
+  record {
+    some_states = facts.fits.2.0;
+    few_states = ltb-false STATE_LIMIT (length part.states) (facts.kept limits.States);
+    some_letters = facts.fits.4.0;
+    few_letters = ltb-false LETTER_LIMIT (length part.letters) (facts.kept limits.Letters);
+    start = not-false _ facts.known.0;
+  },
+  tt,
+)
+ready_automaton all line (Step part) facts = tt
+ready_automaton all line (Generate shape) facts = tt
+ready_automaton all line (Test test) facts = tt
+ready_automaton all line (Named name test) facts = tt
+ready_automaton all line (Keep keep) facts = tt
+ready_automaton all line (Aggregate goal) facts = tt
 
 each_append : {A : Type 0} (F : A → Type 0) (xs ys : List A) → EachFits F xs → EachFits F ys → EachFits F (xs ++ ys)
 each_append F [] ys front back = back
@@ -468,3 +561,10 @@ tables_ready all [] facts = tt
 tables_ready all (part ∷ parts) facts =
     each_append IsReadyTable (table_parts part.kind) (tables_in parts)
     (ready_of_line all part.line part.kind facts.0) (tables_ready all parts facts.1)
+
+pub automata_ready : (all parts : List PartTree) → EachFits (Facts all) parts
+    → EachFits IsReadyAutomaton (automata_in parts)
+automata_ready all [] facts = tt
+automata_ready all (part ∷ parts) facts =
+    each_append IsReadyAutomaton (automaton_parts part.kind) (automata_in parts)
+    (ready_automaton all part.line part.kind facts.0) (automata_ready all parts facts.1)

@@ -10,16 +10,18 @@ use Rattle.std.proofs.lemmas.Simd.{map-map}
 use Rattle.std.proofs.lemmas.Bool.{false≢true, cases_Bool, cases_lt, or_cases}
 use Rattle.std.proofs.lemmas.Option.{none-some, same_Some}
 use Rattle.gta_spec.specs.declared.parts.ColumnItem.{ColumnItem}
-use Rattle.gta_spec.specs.Parts.{KindTree, Columns, Labels, Measure, Table, Times, Generate, Test}
-use Rattle.gta_spec.specs.Parts.{Named, Keep, Aggregate, TableTree, PartTree}
+use Rattle.gta_spec.specs.Parts.{KindTree, Columns, Labels, Measure, Table, Times, Automaton, Step, Generate, Test}
+use Rattle.gta_spec.specs.Parts.{AutomatonTree, Named, Keep, Aggregate, TableTree, PartTree}
+use Rattle.spec_automata.specs.Automata.{automata_in, automaton_parts}
 use Rattle.gta_types.specs.declared.declaring.NameKind.{NameKind}
-use Rattle.gta_types.specs.declared.declaring.NameKind.TheVariants.{AColumn, ALabel, AMeasure, ATable, ATest, AnElement}
+use Rattle.gta_types.specs.declared.declaring.NameKind.TheVariants.{AColumn, ALabel, AMeasure, ATable, AnAutomaton}
+use Rattle.gta_types.specs.declared.declaring.NameKind.TheVariants.{ATest}
 use Rattle.gta_types.specs.Names.{Declaration, declare, declarations_of, declarations}
-use Rattle.gta_types.specs.Names.{declaration_of, declared_as, is_element, is_of, same_kind}
+use Rattle.gta_types.specs.Names.{declaration_of, declared_as, is_inner, is_of, same_kind}
 use Rattle.spec_tables.specs.Tables.{number_of, table_parts, tables_in}
 use Rattle.gta_types.specs.Resolved.{column_items, label_names, measure_names, test_names}
-use Rattle.gta_types.specs.Resolved.{TableNames, table_names, environment}
-use Rattle.gta_types.proofs.Looked.{called, option_cases, line_of_map, table_hit}
+use Rattle.gta_types.specs.Resolved.{AutomatonNames, TableNames, automaton_names, table_names, environment}
+use Rattle.gta_types.proofs.Looked.{called, option_cases, line_of_map, table_hit, automaton_hit}
 use Rattle.spec_tables.proofs.NumberOf.{number_of-append-past, number_of-append-within}
 
 -- the number of x is one of these names
@@ -70,8 +72,8 @@ named_in line kind f x [] d e = absurd (none-some d e)
 named_in line kind f x (a ∷ xs) d e =
     elim (cases_Bool (bytes_eq (f a) x)) [
       | inl h ↦ rw h (omega arith)
-      | inr h ↦ (let none : (not (is_element kind) && bytes_eq (f a) x)
-          ≡ false = rw h (and_false (not (is_element kind))) in
+      | inr h ↦ (let none : (not (is_inner kind) && bytes_eq (f a) x)
+          ≡ false = rw h (and_false (not (is_inner kind))) in
           let rest = named_in line kind f x xs d (rw none at e) in rw h (omega arith))
     ]
   where
@@ -86,19 +88,20 @@ map_same (x ∷ xs) = ap (λ (ys : List _). x ∷ ys) (map_same xs)
 other_kind : (K k d : NameKind) → d ≡ k → same_kind K k ≡ false → same_kind K d ≡ true → ⊥
 other_kind K k d e differs same = false≢true (sym differs ∙ ap (same_kind K) (sym e) ∙ same)
 
--- a declaration of a table line is of the table or of an element
-table_line : (p : Declaration → Bool) (K : NameKind) (line : ℕ) (name : List ℕ) (elements : List (List ℕ))
-    (d : Declaration)
-    → find p (declare line ATable name ∷ map (declare line AnElement) elements) ≡ Some d
-    → same_kind K ATable ≡ false → same_kind K AnElement ≡ false → same_kind K d.kind ≡ true → ⊥
-table_line p K line name elements d e no_table no_element same =
-    elim (p (declare line ATable name)) as (λ b. cond b (Some (declare line ATable name))
-    (find p (map (declare line AnElement) elements)) ≡ Some d → ⊥) [
-      | true ↦ (λ h. other_kind K ATable d.kind (ap (λ (x : Declaration). x.kind)
-          (sym (same_Some _ _ h))) no_table same)
-      | false ↦ (λ h. other_kind K AnElement d.kind
-          (line_of_map p line AnElement (λ (x : List ℕ). x) elements d h).1 no_element same)
-    ] e
+-- a declaration of a table's line that is called x is the table's own, and one of an automaton's line the automaton's
+table_line : (K : NameKind) (x : List ℕ) (line : ℕ) (part : TableTree) (d : Declaration)
+    → find (called x) (declarations_of line (Table part)) ≡ Some d → same_kind K ATable ≡ false
+    → same_kind K d.kind ≡ true → ⊥
+table_line K x line part d e other same =
+    other_kind K ATable d.kind
+    (ap (λ (x : Declaration). x.kind) (sym (table_hit line part.name x part.elements d e).1)) other same
+
+automaton_line : (K : NameKind) (x : List ℕ) (line : ℕ) (part : AutomatonTree) (d : Declaration)
+    → find (called x) (declarations_of line (Automaton part)) ≡ Some d → same_kind K AnAutomaton ≡ false
+    → same_kind K d.kind ≡ true → ⊥
+automaton_line K x line part d e other same =
+    other_kind K AnAutomaton d.kind
+    (ap (λ (x : Declaration). x.kind) (sym (automaton_hit line part x d e).1)) other same
 
 column_here : (x : List ℕ) (line : ℕ) (kind : KindTree) (d : Declaration)
     → find (called x) (declarations_of line kind) ≡ Some d → same_kind AColumn d.kind ≡ true
@@ -110,9 +113,10 @@ column_here x line (Labels xs) d e same =
 column_here x line (Measure part) d e same =
     absurd (other_kind AColumn AMeasure d.kind
     (line_of_map (called x) line AMeasure (λ (x : List ℕ). x) (part.name ∷ []) d e).1 refl same)
-column_here x line (Table part) d e same =
-    absurd (table_line (called x) AColumn line part.name part.elements d e refl refl same)
+column_here x line (Table part) d e same = absurd (table_line AColumn x line part d e refl same)
 column_here x line (Times part) d e same = absurd (none-some d e)
+column_here x line (Automaton part) d e same = absurd (automaton_line AColumn x line part d e refl same)
+column_here x line (Step part) d e same = absurd (none-some d e)
 column_here x line (Generate shape) d e same = absurd (none-some d e)
 column_here x line (Test test) d e same = absurd (none-some d e)
 column_here x line (Named name test) d e same =
@@ -131,9 +135,10 @@ label_here x line (Labels xs) d e same =
 label_here x line (Measure part) d e same =
     absurd (other_kind ALabel AMeasure d.kind
     (line_of_map (called x) line AMeasure (λ (x : List ℕ). x) (part.name ∷ []) d e).1 refl same)
-label_here x line (Table part) d e same =
-    absurd (table_line (called x) ALabel line part.name part.elements d e refl refl same)
+label_here x line (Table part) d e same = absurd (table_line ALabel x line part d e refl same)
 label_here x line (Times part) d e same = absurd (none-some d e)
+label_here x line (Automaton part) d e same = absurd (automaton_line ALabel x line part d e refl same)
+label_here x line (Step part) d e same = absurd (none-some d e)
 label_here x line (Generate shape) d e same = absurd (none-some d e)
 label_here x line (Test test) d e same = absurd (none-some d e)
 label_here x line (Named name test) d e same =
@@ -153,9 +158,10 @@ measure_here x line (Labels xs) d e same =
     (λ (x : List ℕ). x) xs d e).1 refl same)
 measure_here x line (Measure part) d e same =
     named_in line AMeasure (λ (x : List ℕ). x) x (part.name ∷ []) d e
-measure_here x line (Table part) d e same =
-    absurd (table_line (called x) AMeasure line part.name part.elements d e refl refl same)
+measure_here x line (Table part) d e same = absurd (table_line AMeasure x line part d e refl same)
 measure_here x line (Times part) d e same = absurd (none-some d e)
+measure_here x line (Automaton part) d e same = absurd (automaton_line AMeasure x line part d e refl same)
+measure_here x line (Step part) d e same = absurd (none-some d e)
 measure_here x line (Generate shape) d e same = absurd (none-some d e)
 measure_here x line (Test test) d e same = absurd (none-some d e)
 measure_here x line (Named name test) d e same =
@@ -178,6 +184,8 @@ table_here x line (Measure part) d e same =
     (line_of_map (called x) line AMeasure (λ (x : List ℕ). x) (part.name ∷ []) d e).1 refl same)
 table_here x line (Table part) d e same = rw (table_hit line part.name x part.elements d e).0 (omega arith)
 table_here x line (Times part) d e same = absurd (none-some d e)
+table_here x line (Automaton part) d e same = absurd (automaton_line ATable x line part d e refl same)
+table_here x line (Step part) d e same = absurd (none-some d e)
 table_here x line (Generate shape) d e same = absurd (none-some d e)
 table_here x line (Test test) d e same = absurd (none-some d e)
 table_here x line (Named name test) d e same =
@@ -185,6 +193,30 @@ table_here x line (Named name test) d e same =
     (line_of_map (called x) line ATest (λ (x : List ℕ). x) (name ∷ []) d e).1 refl same)
 table_here x line (Keep keep) d e same = absurd (none-some d e)
 table_here x line (Aggregate goal) d e same = absurd (none-some d e)
+
+automaton_here : (x : List ℕ) (line : ℕ) (kind : KindTree) (d : Declaration)
+    → find (called x) (declarations_of line kind) ≡ Some d → same_kind AnAutomaton d.kind ≡ true
+    → IsIn x (map (λ (automaton : AutomatonTree). automaton.name) (automaton_parts kind))
+automaton_here x line (Columns items) d e same =
+    absurd (other_kind AnAutomaton AColumn d.kind
+    (line_of_map (called x) line AColumn (λ (item : ColumnItem). item.name) items d e).1 refl same)
+automaton_here x line (Labels xs) d e same =
+    absurd (other_kind AnAutomaton ALabel d.kind (line_of_map (called x) line ALabel
+    (λ (x : List ℕ). x) xs d e).1 refl same)
+automaton_here x line (Measure part) d e same =
+    absurd (other_kind AnAutomaton AMeasure d.kind
+    (line_of_map (called x) line AMeasure (λ (x : List ℕ). x) (part.name ∷ []) d e).1 refl same)
+automaton_here x line (Table part) d e same = absurd (table_line AnAutomaton x line part d e refl same)
+automaton_here x line (Times part) d e same = absurd (none-some d e)
+automaton_here x line (Automaton part) d e same = rw (automaton_hit line part x d e).0 (omega arith)
+automaton_here x line (Step part) d e same = absurd (none-some d e)
+automaton_here x line (Generate shape) d e same = absurd (none-some d e)
+automaton_here x line (Test test) d e same = absurd (none-some d e)
+automaton_here x line (Named name test) d e same =
+    absurd (other_kind AnAutomaton ATest d.kind
+    (line_of_map (called x) line ATest (λ (x : List ℕ). x) (name ∷ []) d e).1 refl same)
+automaton_here x line (Keep keep) d e same = absurd (none-some d e)
+automaton_here x line (Aggregate goal) d e same = absurd (none-some d e)
 
 test_here : (x : List ℕ) (line : ℕ) (kind : KindTree) (d : Declaration)
     → find (called x) (declarations_of line kind) ≡ Some d → same_kind ATest d.kind ≡ true → IsIn x (test_names kind)
@@ -197,9 +229,10 @@ test_here x line (Labels xs) d e same =
 test_here x line (Measure part) d e same =
     absurd (other_kind ATest AMeasure d.kind
     (line_of_map (called x) line AMeasure (λ (x : List ℕ). x) (part.name ∷ []) d e).1 refl same)
-test_here x line (Table part) d e same =
-    absurd (table_line (called x) ATest line part.name part.elements d e refl refl same)
+test_here x line (Table part) d e same = absurd (table_line ATest x line part d e refl same)
 test_here x line (Times part) d e same = absurd (none-some d e)
+test_here x line (Automaton part) d e same = absurd (automaton_line ATest x line part d e refl same)
+test_here x line (Step part) d e same = absurd (none-some d e)
 test_here x line (Generate shape) d e same = absurd (none-some d e)
 test_here x line (Test test) d e same = absurd (none-some d e)
 test_here x line (Named name test) d e same = named_in line ATest (λ (x : List ℕ). x) x (name ∷ []) d e
@@ -232,6 +265,16 @@ table_in parts x known =
     ∙ map-flat_map (λ (table : TableTree). table.name) (λ (part : PartTree). table_parts part.kind) parts))
     (declared_in ATable (λ kind. map (λ (table : TableTree). table.name) (table_parts kind)) x
     (table_here x) parts known)
+
+pub automaton_in : (parts : List PartTree) (x : List ℕ) → is_of AnAutomaton (declared_as parts x) ≡ true
+    → IsIn x (map (λ (automaton : AutomatonNames). automaton.name) (environment parts).automata)
+automaton_in parts x known =
+    subst (IsIn x)
+    (sym (map-map (λ (automaton : AutomatonNames). automaton.name) automaton_names (automata_in parts)
+    ∙ map-flat_map (λ (automaton : AutomatonTree). automaton.name)
+    (λ (part : PartTree). automaton_parts part.kind) parts))
+    (declared_in AnAutomaton (λ kind. map (λ (automaton : AutomatonTree). automaton.name) (automaton_parts kind)) x
+    (automaton_here x) parts known)
 
 pub weight_in : (parts : List PartTree) (x : List ℕ)
     → (is_of AColumn (declared_as parts x) || is_of AMeasure (declared_as parts x)) ≡ true

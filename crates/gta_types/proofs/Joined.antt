@@ -2,12 +2,15 @@
 use Rattle.std.proofs.Common.{◌≡◌, ℕ, Bool, List, [], ◌∷◌, ◌++◌, map, length, Option, None, refl, ap, ◌∙◌}
 use Rattle.std.specs.Option.{option_or}
 use Rattle.std.specs.List.{flat_map, range_with_len}
+use Rattle.auto_monoid.specs.declared.monoid.AutoMonoid.{AutoMonoid}
+use Rattle.auto_monoid.specs.TransitionOf.{machine}
 use Rattle.shape_gen.specs.declared.shape.Shape.{Shape}
 use Rattle.gta_spec.specs.Parts.{PartTree, SpecTree}
 use Rattle.gta_checked.specs.declared.resolved.Goal.{Goal}
 use Rattle.gta_checked.specs.declared.resolved.Keep.{Keep}
 use Rattle.gta_checked.specs.declared.resolved.Test.{Test}
 use Rattle.gta_checked.specs.Plain.{PlainCase, plain_keep_if, plain_measure, plain_named, plain_test, plain_checked}
+use Rattle.spec_automata.specs.Automata.{automata_in, automaton_of}
 use Rattle.spec_tables.specs.Tables.{named_table, tables_in}
 use Rattle.gta_types.specs.declared.lists.Lists.{Lists}
 use Rattle.gta_types.specs.declared.drafting.Draft.{Draft}
@@ -39,17 +42,20 @@ goals_drafted env parts columns old new fresh names drafted =
     ∙ ap (λ (xs : List Goal). xs ++ flat_map (λ (part : PartTree). goals_of env part.kind) parts) fresh.goals
     ∙ ap (λ (e : Environment). flat_map (λ (part : PartTree). goals_of e part.kind) parts) names
 
-pub is_resolved : (spec : SpecTree) (lists : Lists) (columns : ℕ) (old new : Draft) (shape : Shape) (goal : Goal)
+pub is_resolved : (spec : SpecTree) (lists : Lists) (automata : List AutoMonoid) (columns : ℕ) (old new : Draft)
+    (shape : Shape) (goal : Goal)
     → environment_of lists ≡ environment spec.parts
     → lists.columns.items ≡ flat_map (λ (part : PartTree). column_items part.kind) spec.parts
     → columns ≡ length (environment spec.parts).columns
     → map plain_named lists.tables.items ≡ map (named_table spec.parts) (tables_in spec.parts)
+    → map machine automata ≡ map (automaton_of spec.parts) (automata_in spec.parts)
     → IsFresh columns old → IsDrafted (environment_of lists) spec.parts old new
     → shape ∷ [] ≡ new.shapes.items → goal ∷ [] ≡ new.goals.items
     → IsResolved spec (plain_checked spec.version lists.columns.items lists.labels.items
-    new.measures.items lists.tables.items new.tests.items
+    new.measures.items lists.tables.items automata new.tests.items
     new.named.items new.keep shape goal)
-is_resolved spec lists columns old new shape goal names items count tables fresh drafted one_shape one_goal = record {
+is_resolved spec lists automata columns old new shape goal names items count tables machines fresh drafted one_shape
+    one_goal = record {
   version = refl;
   columns = items;
   labels = ap (λ (e : Environment). e.labels) names;
@@ -62,6 +68,7 @@ is_resolved spec lists columns old new shape goal names items count tables fresh
       (range_with_len 0 (length (environment spec.parts).columns)) ++ flat_map
       (λ (part : PartTree). declared_measures e part.kind) spec.parts) names;
   tables = tables;
+  automata = machines;
   tests = drafted.tests
       ∙ ap (λ (xs : List Test). map plain_test xs ++ flat_map
       (λ (part : PartTree). tests_of (environment_of lists) part.kind) spec.parts) fresh.tests

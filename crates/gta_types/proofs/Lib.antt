@@ -6,9 +6,12 @@ pub mod FirstFault
 pub mod Rules
 pub mod InRange
 pub mod Tables
+pub mod Automata
 pub mod Within
 pub mod KeptTests
+pub mod Inner
 pub mod Folds
+pub mod Runs
 pub mod Accepted
 pub mod Whole
 pub mod Joined

@@ -28,6 +28,7 @@ resolves_each spec well no_fault =
       labels = refl;
       measures = refl;
       tables = refl;
+      automata = refl;
       tests = refl;
       named = refl;
       keep = refl;

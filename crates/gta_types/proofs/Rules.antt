@@ -59,6 +59,9 @@ kept_by count kind h limits.Bound = h.1.1.1.1.1.1.1.1.1.1.1.1.0
 kept_by count kind h limits.Modulus = h.1.1.1.1.1.1.1.1.1.1.1.1.1.0
 kept_by count kind h limits.Residue = h.1.1.1.1.1.1.1.1.1.1.1.1.1.1.0
 kept_by count kind h limits.Kept = h.1.1.1.1.1.1.1.1.1.1.1.1.1.1.1.0
+kept_by count kind h limits.Automata = h.1.1.1.1.1.1.1.1.1.1.1.1.1.1.1.1.0
+kept_by count kind h limits.States = h.1.1.1.1.1.1.1.1.1.1.1.1.1.1.1.1.1.0
+kept_by count kind h limits.Letters = h.1.1.1.1.1.1.1.1.1.1.1.1.1.1.1.1.1.1.0
 
 pub all_kept : (before parts : List PartTree)
     → first_answer limit_at before parts ≡ None

@@ -15,7 +15,7 @@ use Rattle.spec_tables.specs.Tables.{number_of, named_table}
 use Rattle.gta_types.specs.Resolved.{TableNames, table_names, elements_in}
 use Rattle.gta_types.specs.Lists.{names_of}
 
-one_further : {A : Type 0} (x : A) (xs : List A) (n : ℕ) (d : A) → get_or (x ∷ xs) (1 + n) d ≡ get_or xs n d
+pub one_further : {A : Type 0} (x : A) (xs : List A) (n : ℕ) (d : A) → get_or (x ∷ xs) (1 + n) d ≡ get_or xs n d
 one_further x xs n d = ap (λ (k : ℕ). get_or (x ∷ xs) k d) (let e : 1 + n ≡ suc n = omega arith in e)
 
 -- as many elements as the table of the name has

@@ -1,5 +1,5 @@
 -- An index after one more declaration, and the first name declared twice. Of any declarations.
-use Rattle.std.proofs.Common.{◌≡◌, ℕ, ◌+◌, Bool, true, false, ◌&&◌, nat_eq, List, [], ◌∷◌, ◌++◌}
+use Rattle.std.proofs.Common.{◌≡◌, ℕ, ◌+◌, ◌*◌, Bool, true, false, ◌&&◌, nat_eq, List, [], ◌∷◌, ◌++◌}
 use Rattle.std.proofs.Common.{Option, Some, None, is_some, option_map, cond, not, ◌||◌, inl, inr}
 use Rattle.std.proofs.Common.{refl, sym, ap, ◌∙◌, append_assoc, arith}
 use Rattle.std.specs.Option.{option_or}
@@ -11,8 +11,15 @@ use Rattle.std.proofs.lemmas.Bool.{eq-eqb, ne_eqb, cases_eq}
 use Rattle.spec_rules.specs.SpecRules.{first_answer}
 use Rattle.gta_types.specs.declared.names.Found.{Found}
 use Rattle.gta_types.specs.declared.names.Names.{Names}
-use Rattle.gta_types.specs.Names.{Declaration, is_element, share_names, declared_again, declared_twice}
-use Rattle.gta_types.specs.Index.{scope_of, is_named, found_of, first_in, known_at, declared_place, IsIndex}
+use Rattle.gta_types.specs.declared.declaring.InnerKind.{InnerKind}
+use Rattle.gta_types.specs.declared.declaring.InnerKind.TheVariants.{Element, State, Letter}
+use Rattle.gta_types.specs.declared.declaring.NameKind.{NameKind}
+use Rattle.gta_types.specs.declared.declaring.NameKind.TheVariants.{AColumn, ALabel, AMeasure, ATable, AnAutomaton}
+use Rattle.gta_types.specs.declared.declaring.NameKind.TheVariants.{ATest, Inner}
+use Rattle.gta_types.specs.Names.{Declaration, is_inner, same_inner, same_kind, share_names, declared_again}
+use Rattle.gta_types.specs.Names.{declared_twice}
+use Rattle.gta_types.specs.Index.{scope_in, scope_within, scope_of, is_named, found_of, first_in, known_at}
+use Rattle.gta_types.specs.Index.{declared_place, IsIndex}
 
 pub option_or_mapped : {A B : Type 0} (f : A → B) (x y : Option A)
     → option_map f (option_or x y) ≡ option_or (option_map f x) (option_map f y)
@@ -53,20 +60,103 @@ nat_eq_swap m n =
       | inr k ↦ ne_eqb m n k ∙ sym (ne_eqb n m (λ e. k (sym e)))
     ]
 
-nat_eq_next : (m n : ℕ) → nat_eq (m + 1) (n + 1) ≡ nat_eq n m
-nat_eq_next m n =
+-- a scope is that of one list of one line
+same_place : (k m n : ℕ) → nat_eq (3 * n + k) (3 * m + k) ≡ nat_eq m n
+same_place k m n =
     elim (cases_eq m n) [
-      | inl e ↦ (let f : m + 1 ≡ n + 1 = omega arith in eq-eqb (m + 1) (n + 1) f ∙ sym (eq-eqb n m (sym e)))
-      | inr k ↦ (let f : m + 1 ≡ n + 1 → ⊥ = λ e. k (omega arith) in
-          ne_eqb (m + 1) (n + 1) f ∙ sym (ne_eqb n m (λ e. k (sym e))))
+      | inl e ↦ (let f : 3 * n + k ≡ 3 * m + k = omega arith in eq-eqb (3 * n + k) (3 * m + k) f ∙ sym (eq-eqb m n e))
+      | inr apart ↦ (let f : 3 * n + k ≡ 3 * m + k → ⊥ = λ e. apart (omega arith) in
+          ne_eqb (3 * n + k) (3 * m + k) f ∙ sym (ne_eqb m n apart))
     ]
 
-same_scope : (e d : Bool) (m n : ℕ)
-    → nat_eq (cond d (n + 1) 0) (cond e (m + 1) 0) ≡ cond e (d && nat_eq m n) (not d)
-same_scope true true m n = nat_eq_next n m
-same_scope true false m n = ne_eqb 0 (m + 1) (λ h. omega arith)
-same_scope false true m n = ne_eqb (n + 1) 0 (λ h. omega arith)
-same_scope false false m n = refl
+same_within : (a b : InnerKind) (m n : ℕ)
+    → nat_eq (scope_within b n) (scope_within a m) ≡ (same_inner a b && nat_eq m n)
+same_within Element Element m n = same_place 1 m n
+same_within Element State m n = ne_eqb (3 * n + 2) (3 * m + 1) (λ e. omega arith)
+same_within Element Letter m n = ne_eqb (3 * n + 3) (3 * m + 1) (λ e. omega arith)
+same_within State Element m n = ne_eqb (3 * n + 1) (3 * m + 2) (λ e. omega arith)
+same_within State State m n = same_place 2 m n
+same_within State Letter m n = ne_eqb (3 * n + 3) (3 * m + 2) (λ e. omega arith)
+same_within Letter Element m n = ne_eqb (3 * n + 1) (3 * m + 3) (λ e. omega arith)
+same_within Letter State m n = ne_eqb (3 * n + 2) (3 * m + 3) (λ e. omega arith)
+same_within Letter Letter m n = same_place 3 m n
+
+none_first : (a : InnerKind) (m : ℕ) → nat_eq 0 (scope_within a m) ≡ false
+none_first Element m = ne_eqb 0 (3 * m + 1) (λ e. omega arith)
+none_first State m = ne_eqb 0 (3 * m + 2) (λ e. omega arith)
+none_first Letter m = ne_eqb 0 (3 * m + 3) (λ e. omega arith)
+
+-- the scope of names that are in no list is that of no list
+pub shared_scope : (kind : NameKind) (m : ℕ) → nat_eq 0 (scope_in kind m) ≡ not (is_inner kind)
+shared_scope AColumn m = refl
+shared_scope ALabel m = refl
+shared_scope AMeasure m = refl
+shared_scope ATable m = refl
+shared_scope AnAutomaton m = refl
+shared_scope ATest m = refl
+shared_scope (Inner a) m = none_first a m
+
+pub inner_scope : (kind : NameKind) (a : InnerKind) (m n : ℕ)
+    → nat_eq (scope_within a n) (scope_in kind m) ≡ (is_inner kind && (same_kind kind (Inner a) && nat_eq m n))
+inner_scope AColumn a m n = nat_eq_swap (scope_within a n) 0 ∙ none_first a n
+inner_scope ALabel a m n = nat_eq_swap (scope_within a n) 0 ∙ none_first a n
+inner_scope AMeasure a m n = nat_eq_swap (scope_within a n) 0 ∙ none_first a n
+inner_scope ATable a m n = nat_eq_swap (scope_within a n) 0 ∙ none_first a n
+inner_scope AnAutomaton a m n = nat_eq_swap (scope_within a n) 0 ∙ none_first a n
+inner_scope ATest a m n = nat_eq_swap (scope_within a n) 0 ∙ none_first a n
+inner_scope (Inner b) a m n = same_within b a m n
+
+same_scope : (kind other : NameKind) (m n : ℕ)
+    → nat_eq (scope_in other n) (scope_in kind m)
+    ≡ cond (is_inner kind) (same_kind kind other && nat_eq m n) (not (is_inner other))
+same_scope kind (Inner a) m n = inner_scope kind a m n ∙ either_way (is_inner kind)
+  where
+    either_way : (e : Bool) → (e && (same_kind kind (Inner a) && nat_eq m n))
+        ≡ cond e (same_kind kind (Inner a) && nat_eq m n) false
+    either_way true = refl
+    either_way false = refl
+same_scope (Inner b) AColumn m n = none_first b m
+same_scope (Inner b) ALabel m n = none_first b m
+same_scope (Inner b) AMeasure m n = none_first b m
+same_scope (Inner b) ATable m n = none_first b m
+same_scope (Inner b) AnAutomaton m n = none_first b m
+same_scope (Inner b) ATest m n = none_first b m
+same_scope AColumn AColumn m n = refl
+same_scope AColumn ALabel m n = refl
+same_scope AColumn AMeasure m n = refl
+same_scope AColumn ATable m n = refl
+same_scope AColumn AnAutomaton m n = refl
+same_scope AColumn ATest m n = refl
+same_scope ALabel AColumn m n = refl
+same_scope ALabel ALabel m n = refl
+same_scope ALabel AMeasure m n = refl
+same_scope ALabel ATable m n = refl
+same_scope ALabel AnAutomaton m n = refl
+same_scope ALabel ATest m n = refl
+same_scope AMeasure AColumn m n = refl
+same_scope AMeasure ALabel m n = refl
+same_scope AMeasure AMeasure m n = refl
+same_scope AMeasure ATable m n = refl
+same_scope AMeasure AnAutomaton m n = refl
+same_scope AMeasure ATest m n = refl
+same_scope ATable AColumn m n = refl
+same_scope ATable ALabel m n = refl
+same_scope ATable AMeasure m n = refl
+same_scope ATable ATable m n = refl
+same_scope ATable AnAutomaton m n = refl
+same_scope ATable ATest m n = refl
+same_scope AnAutomaton AColumn m n = refl
+same_scope AnAutomaton ALabel m n = refl
+same_scope AnAutomaton AMeasure m n = refl
+same_scope AnAutomaton ATable m n = refl
+same_scope AnAutomaton AnAutomaton m n = refl
+same_scope AnAutomaton ATest m n = refl
+same_scope ATest AColumn m n = refl
+same_scope ATest ALabel m n = refl
+same_scope ATest AMeasure m n = refl
+same_scope ATest ATable m n = refl
+same_scope ATest AnAutomaton m n = refl
+same_scope ATest ATest m n = refl
 
 pub bytes_eq_swap : (x y : List ℕ) → bytes_eq x y ≡ bytes_eq y x
 bytes_eq_swap [] [] = refl
@@ -77,7 +167,7 @@ bytes_eq_swap (a ∷ as') (b ∷ bs) = rw (nat_eq_swap a b, bytes_eq_swap as' bs
 is_named_again : (d e : Declaration)
     → is_named (scope_of d) d.name e ≡ (share_names e d && bytes_eq e.name d.name)
 is_named_again d e =
-    ap (λ (b : Bool). b && bytes_eq d.name e.name) (same_scope (is_element e.kind) (is_element d.kind) e.line d.line)
+    ap (λ (b : Bool). b && bytes_eq d.name e.name) (same_scope e.kind d.kind e.line d.line)
     ∙ ap (λ (b : Bool). share_names e d && b) (bytes_eq_swap d.name e.name)
 
 option_or-assoc : {A : Type 0} (x y z : Option A) → option_or (option_or x y) z ≡ option_or x (option_or y z)

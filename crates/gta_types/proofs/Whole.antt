@@ -11,19 +11,20 @@ use Rattle.shape_gen.specs.declared.shape.Shape.{Shape}
 use Rattle.shape_gen.specs.declared.shape.Shape.TheVariants.{Sublists, Assign, Prefixes, Suffixes, Segments}
 use Rattle.gta_spec.specs.declared.limits.TheConstants.{COLUMN_LIMIT, LABEL_LIMIT}
 use Rattle.gta_spec.specs.declared.parts.Part.{Part}
-use Rattle.gta_spec.specs.Parts.{KindTree, Columns, Labels, Measure, Table, Times, Generate, Test}
+use Rattle.gta_spec.specs.Parts.{KindTree, Columns, Labels, Measure, Table, Times, Automaton, Step, Generate, Test}
 use Rattle.gta_spec.specs.Parts.{Named, Keep, Aggregate, PartTree, SpecTree, CaseTree, part_tree, kind_tree}
 use Rattle.gta_text.specs.declared.numbers.TheConstants.{NUMBER_BOUND}
 use Rattle.gta_spec.specs.declared.parts.TermPart.{TermPart}
 use Rattle.gta_spec.specs.WellFormed.{EachFits, FitsQuantity, FitsTerm, FitsCase, FitsKind, FitParts, IsWellFormed}
 use Rattle.gta_checked.specs.declared.resolved.Goal.{Goal}
 use Rattle.gta_checked.specs.Plain.{PlainChecked}
-use Rattle.gta_checked.specs.Within.{IsGoalWithin, IsTableWithin, IsWithinLimits}
+use Rattle.gta_checked.specs.Within.{IsAutomatonWithin, IsGoalWithin, IsTableWithin, IsWithinLimits}
 use Rattle.spec_rules.specs.declared.fault.SinglePart.TheVariants as singles
 use Rattle.spec_rules.specs.declared.fault.Limit.TheVariants as limits
 use Rattle.spec_rules.specs.SpecRules.{single_of, is_the, is_single, first_line, labels_assign_of}
 use Rattle.spec_rules.specs.SpecRules.{labels_assign, rule_fault, is_assign}
 use Rattle.gta_types.specs.Names.{Use, is_known, uses}
+use Rattle.spec_automata.specs.Automata.{automata_in, automaton_of}
 use Rattle.spec_tables.specs.Tables.{tables_in, named_table}
 use Rattle.gta_types.specs.Resolved.{column_items, factor_of, label_names, environment, shapes_of}
 use Rattle.gta_types.specs.Resolved.{goals_of, resolved_goal, measures_of, IsResolved}
@@ -35,7 +36,8 @@ use Rattle.gta_types.proofs.Twice.{is_some-mapped_find}
 use Rattle.gta_types.proofs.Rules.{option_or_none, mapped_none, none_found, AllKept, all_kept}
 use Rattle.gta_types.proofs.Rules.{AllOnce, all_once, IsOnly, the_only, none_there}
 use Rattle.gta_types.proofs.Within.{column_count, label_count}
-use Rattle.gta_types.proofs.Accepted.{LineFacts, Facts, line_facts, few_measure_names, few_tables, few_tests}
+use Rattle.gta_types.proofs.Accepted.{LineFacts, Facts, line_facts, few_automata, few_measure_names, few_tables}
+use Rattle.gta_types.proofs.Accepted.{automata_ready, few_tests}
 use Rattle.gta_types.proofs.Accepted.{measures_length, all_measures, all_tests, goal_of_line}
 use Rattle.gta_types.proofs.Accepted.{few_test_names, keep_declared, named_length, tests_length}
 
@@ -77,6 +79,8 @@ no_columns_else (Labels xs) e = refl
 no_columns_else (Measure part) e = refl
 no_columns_else (Table part) e = refl
 no_columns_else (Times part) e = refl
+no_columns_else (Automaton part) e = refl
+no_columns_else (Step part) e = refl
 no_columns_else (Generate shape) e = refl
 no_columns_else (Test test) e = refl
 no_columns_else (Named name test) e = refl
@@ -89,6 +93,8 @@ no_labels_else (Labels xs) e = absurd (false≢true (sym e))
 no_labels_else (Measure part) e = refl
 no_labels_else (Table part) e = refl
 no_labels_else (Times part) e = refl
+no_labels_else (Automaton part) e = refl
+no_labels_else (Step part) e = refl
 no_labels_else (Generate shape) e = refl
 no_labels_else (Test test) e = refl
 no_labels_else (Named name test) e = refl
@@ -101,6 +107,8 @@ no_shapes_else (Labels xs) e = refl
 no_shapes_else (Measure part) e = refl
 no_shapes_else (Table part) e = refl
 no_shapes_else (Times part) e = refl
+no_shapes_else (Automaton part) e = refl
+no_shapes_else (Step part) e = refl
 no_shapes_else (Generate shape) e = absurd (false≢true (sym e))
 no_shapes_else (Test test) e = refl
 no_shapes_else (Named name test) e = refl
@@ -114,6 +122,8 @@ no_goals_else all (Labels xs) e = refl
 no_goals_else all (Measure part) e = refl
 no_goals_else all (Table part) e = refl
 no_goals_else all (Times part) e = refl
+no_goals_else all (Automaton part) e = refl
+no_goals_else all (Step part) e = refl
 no_goals_else all (Generate shape) e = refl
 no_goals_else all (Test test) e = refl
 no_goals_else all (Named name test) e = refl
@@ -127,6 +137,8 @@ few_items all line (Labels xs) is facts = absurd (false≢true is)
 few_items all line (Measure part) is facts = absurd (false≢true is)
 few_items all line (Table part) is facts = absurd (false≢true is)
 few_items all line (Times part) is facts = absurd (false≢true is)
+few_items all line (Automaton part) is facts = absurd (false≢true is)
+few_items all line (Step part) is facts = absurd (false≢true is)
 few_items all line (Generate shape) is facts = absurd (false≢true is)
 few_items all line (Test test) is facts = absurd (false≢true is)
 few_items all line (Named name test) is facts = absurd (false≢true is)
@@ -140,6 +152,8 @@ some_labels all line (Labels xs) is facts = (facts.fits.0, ltb-false LABEL_LIMIT
 some_labels all line (Measure part) is facts = absurd (false≢true is)
 some_labels all line (Table part) is facts = absurd (false≢true is)
 some_labels all line (Times part) is facts = absurd (false≢true is)
+some_labels all line (Automaton part) is facts = absurd (false≢true is)
+some_labels all line (Step part) is facts = absurd (false≢true is)
 some_labels all line (Generate shape) is facts = absurd (false≢true is)
 some_labels all line (Test test) is facts = absurd (false≢true is)
 some_labels all line (Named name test) is facts = absurd (false≢true is)
@@ -152,6 +166,8 @@ one_shape (Labels xs) is = absurd (false≢true is)
 one_shape (Measure part) is = absurd (false≢true is)
 one_shape (Table part) is = absurd (false≢true is)
 one_shape (Times part) is = absurd (false≢true is)
+one_shape (Automaton part) is = absurd (false≢true is)
+one_shape (Step part) is = absurd (false≢true is)
 one_shape (Generate shape) is = refl
 one_shape (Test test) is = absurd (false≢true is)
 one_shape (Named name test) is = absurd (false≢true is)
@@ -166,6 +182,8 @@ one_goal all line (Labels xs) is facts = absurd (false≢true is)
 one_goal all line (Measure part) is facts = absurd (false≢true is)
 one_goal all line (Table part) is facts = absurd (false≢true is)
 one_goal all line (Times part) is facts = absurd (false≢true is)
+one_goal all line (Automaton part) is facts = absurd (false≢true is)
+one_goal all line (Step part) is facts = absurd (false≢true is)
 one_goal all line (Generate shape) is facts = absurd (false≢true is)
 one_goal all line (Test test) is facts = absurd (false≢true is)
 one_goal all line (Named name test) is facts = absurd (false≢true is)
@@ -219,6 +237,8 @@ module _ (all : List PartTree) (sound : IsSound all) where
     columns = few_columns;
     labels = few_labels;
     measures = few_measure_names all sound.kept;
+    automata = few_automata all sound.kept;
+    each_automaton = automata_ready all all sound.facts;
     tests = few_test_names all sound.kept;
   }
 
@@ -245,6 +265,8 @@ assign_of_shapes (Labels xs) = refl
 assign_of_shapes (Measure part) = refl
 assign_of_shapes (Table part) = refl
 assign_of_shapes (Times part) = refl
+assign_of_shapes (Automaton part) = refl
+assign_of_shapes (Step part) = refl
 assign_of_shapes (Generate Sublists) = refl
 assign_of_shapes (Generate Assign) = refl
 assign_of_shapes (Generate Prefixes) = refl
@@ -297,8 +319,9 @@ assigned_labels all sound shape only =
     )
 
 pub within_limits : (spec : SpecTree) → IsWellFormed spec → IsSound spec.parts → (checked : PlainChecked)
-    → IsResolved spec checked → All IsTableWithin checked.tables → IsWithinLimits checked
-within_limits spec well sound checked resolved tables =
+    → IsResolved spec checked → All IsTableWithin checked.tables → All IsAutomatonWithin checked.automata
+    → IsWithinLimits checked
+within_limits spec well sound checked resolved tables automata =
     let all = spec.parts in
     let m = measures_length all in
     let few_declared = few_measure_names all sound.kept in
@@ -313,8 +336,19 @@ within_limits spec well sound checked resolved tables =
       few_tables = (let few = few_tables all sound.kept in
           let count = length-map (tables_in all) (named_table all) in rw resolved.tables (omega (arith, few, count)));
       tables = tables;
+      few_automata = (let few = few_automata all sound.kept in
+          let count = length-map (automata_in all) (automaton_of all) in
+          rw resolved.automata (omega (arith, few, count)));
+      automata = automata;
       few_tests = rw resolved.tests (few_tests all sound.kept);
-      tests = rw (resolved.columns, resolved.labels, resolved.measures, resolved.tables, resolved.tests)
+      tests = rw (
+        resolved.columns,
+        resolved.labels,
+        resolved.measures,
+        resolved.tables,
+        resolved.automata,
+        resolved.tests,
+      )
           (all_tests all sound.facts);
       each_named = rw (resolved.named, resolved.tests) (named_length all);
       keep = rw (resolved.keep, resolved.tests, tests_length all) (keep_declared all sound.facts);
@@ -345,6 +379,8 @@ line_ready version (Labels xs) fits = tt
 line_ready version (Measure part) fits = cases_ready version part.cases fits.1.1
 line_ready version (Table part) fits = tt
 line_ready version (Times part) fits = tt
+line_ready version (Automaton part) fits = tt
+line_ready version (Step part) fits = tt
 line_ready version (Generate shape) fits = tt
 line_ready version (Test test) fits = tt
 line_ready version (Named name test) fits = tt

@@ -64,10 +64,10 @@ fn checked_of(
     shape: Shape,
     goal: Goal,
 ) -> Checked
-    requires { IsWithinLimits (plain_checked version lists.columns.items lists.labels.items draft.measures.items
-        lists.tables.items automata.items draft.tests.items draft.named.items draft.keep shape goal) }
-    ensures { result ≡ plain_checked version lists.columns.items lists.labels.items draft.measures.items
-        lists.tables.items automata.items draft.tests.items draft.named.items draft.keep shape goal }
+    requires { IsWithinLimits (plain_checked version lists.columns.items lists.labels.items
+        draft.measures.items lists.tables.items automata.items draft.tests.items draft.named.items draft.keep shape goal) }
+    ensures { result ≡ plain_checked version lists.entry.columns.items lists.entry.labels.items
+        draft.measures.items lists.entry.tables.items automata.items draft.tests.items draft.named.items draft.keep shape goal }
 {
     Checked::of(
         version,

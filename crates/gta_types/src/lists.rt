@@ -6,7 +6,6 @@ ghost use Rattle.gta_spec.specs.declared.limits.TheConstants.{AUTOMATON_LIMIT, T
 ghost use Rattle.gta_checked.specs.Plain.{plain_named};
 ghost use Rattle.gta_checked.specs.Within.{IsTableWithin};
 ghost use Rattle.gta_spec.specs.Parts.{automaton_tree};
-ghost use Rattle.gta_spec.specs.WellFormed.{EachFits};
 ghost use Rattle.spec_automata.specs.Ready.{IsReadyAutomaton};
 
 use gta_checked::Table;
@@ -30,5 +29,5 @@ pub(crate) struct Lists<'a> {
     ghost few_automata: { vec_len automata ≤ AUTOMATON_LIMIT },
     ghost few_tests: { vec_len tests ≤ TEST_LIMIT },
     ghost tables_within: { All IsTableWithin (map plain_named tables.items) },
-    ghost automata_ready: { EachFits IsReadyAutomaton (map (λ line. automaton_tree line.now) automata.items) },
+    ghost automata_ready: { All IsReadyAutomaton (map (λ line. automaton_tree line.now) automata.items) },
 }

@@ -251,8 +251,10 @@ fn in_picks_and_accepted<'a>(
     names: &Names<'a>,
     line: u32,
     of: Option<Found>,
-    (picked, picks): (InnerKind, &'a [PickPart]),
-    (accepted, accept): (InnerKind, &'a [Name]),
+    picked: InnerKind,
+    picks: &'a [PickPart],
+    accepted: InnerKind,
+    accept: &'a [Name],
 ) -> Option<Place<'a>>
     ensures { (home : List ℕ) → known_at names.now 0 home ≡ of → option_map place result
         ≡ unknown_in names.now (flat_map (uses_of_pick line (Within picked home)) (map pick_tree picks.now)
@@ -282,7 +284,7 @@ fn in_fold<'a>(
     // The table is looked up once: its name may be long, and its elements many.
     let of = names.look(0, table.bytes());
     let element = InnerKind::Element;
-    in_picks_and_accepted(names, line, of, (element, picks), (element, accept))
+    in_picks_and_accepted(names, line, of, element, picks, element, accept)
 }
 
 fn in_run<'a>(
@@ -300,7 +302,7 @@ fn in_run<'a>(
         return found;
     }
     let of = names.look(0, automaton.bytes());
-    in_picks_and_accepted(names, line, of, (InnerKind::Letter, picks), (InnerKind::State, accept))
+    in_picks_and_accepted(names, line, of, InnerKind::Letter, picks, InnerKind::State, accept)
 }
 
 fn in_test<'a>(names: &Names<'a>, line: u32, test: &'a TestPart) -> Option<Place<'a>>

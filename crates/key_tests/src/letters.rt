@@ -86,7 +86,7 @@ fn turned(alloc: Global) -> Result<Measure, AllocError>
 // A specification with these tests, and no table.
 fn spec_of(alloc: Global, tests: Vec<Test>) -> Result<Checked, AllocError>
     requires few { length (map plain_test tests.items) ≤ 8 }
-    requires within { All (IsTestWithin 1 2 2 []) (map plain_test tests.items) }
+    requires within { All (IsTestWithin 1 2 2 [] []) (map plain_test tests.items) }
     ensures columns { IfOk result (λ checked. length checked.columns ≡ 1) }
 {
     spec_with(alloc, Vec::new(alloc), tests)
@@ -107,7 +107,7 @@ fn spec_with(alloc: Global, tables: Vec<Table>, tests: Vec<Test>) -> Result<Chec
     requires few_tables { length (map plain_named tables.items) ≤ 8 }
     requires tables { All IsTableWithin (map plain_named tables.items) }
     requires few { length (map plain_test tests.items) ≤ 8 }
-    requires within { All (IsTestWithin 1 2 2 (map plain_named tables.items)) (map plain_test tests.items) }
+    requires within { All (IsTestWithin 1 2 2 (map plain_named tables.items) []) (map plain_test tests.items) }
     ensures columns { IfOk result (λ checked. length checked.columns ≡ 1) }
 {
     let mut columns = Vec::new(alloc);
@@ -128,6 +128,7 @@ fn spec_with(alloc: Global, tables: Vec<Table>, tests: Vec<Test>) -> Result<Chec
         labels,
         measures,
         tables,
+        Vec::new(alloc),
         tests,
         named,
         None,
@@ -193,7 +194,7 @@ fn parity(alloc: Global) -> Result<Option<Table>, AllocError>
 // fold parity by odd if label B accept odd
 fn odd_labels(alloc: Global) -> Result<Test, AllocError>
     ensures { IfOk result (λ test. (table : NamedTable) → table.products.size ≡ 2
-        → IsTestWithin 1 2 2 (table ∷ []) (plain_test test)) }
+        → IsTestWithin 1 2 2 (table ∷ []) [] (plain_test test)) }
 {
     let mut cond = Vec::new(alloc);
     cond.push(Atom::Label(1))?;
@@ -216,8 +217,8 @@ fn spec_of_two(
     second: Test,
 ) -> Result<Checked, AllocError>
     requires table { IsTableWithin (plain_named table) }
-    requires first { IsTestWithin 1 2 2 (plain_named table ∷ []) (plain_test first) }
-    requires second { IsTestWithin 1 2 2 (plain_named table ∷ []) (plain_test second) }
+    requires first { IsTestWithin 1 2 2 (plain_named table ∷ []) [] (plain_test first) }
+    requires second { IsTestWithin 1 2 2 (plain_named table ∷ []) [] (plain_test second) }
     ensures columns { IfOk result (λ checked. length checked.columns ≡ 1) }
 {
     let mut tables = Vec::new(alloc);

@@ -106,7 +106,7 @@ fn steps(alloc: Global) -> Result<Measure, AllocError>
 }
 
 fn spec_of(alloc: Global, test: Test, goal: Goal) -> Result<Checked, AllocError>
-    requires test { IsTestWithin 1 2 3 [] (plain_test test) }
+    requires test { IsTestWithin 1 2 3 [] [] (plain_test test) }
     requires goal { IsGoalWithin 3 goal }
     ensures columns { IfOk result (λ checked. length checked.columns ≡ 1) }
     ensures labels { IfOk result (λ checked. length checked.labels ≡ 2) }
@@ -133,6 +133,7 @@ fn spec_of(alloc: Global, test: Test, goal: Goal) -> Result<Checked, AllocError>
         columns,
         labels,
         measures,
+        Vec::new(alloc),
         Vec::new(alloc),
         tests,
         named,

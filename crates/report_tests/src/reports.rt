@@ -97,7 +97,7 @@ fn faults_of_names(rt: HostRuntime) -> Result<(), Fail> {
 }
 
 #[test]
-fn faults_of_tables(rt: HostRuntime) -> Result<(), Fail> {
+fn faults_of_tables_and_automata(rt: HostRuntime) -> Result<(), Fail> {
     let alloc = rt.alloc();
     let table = Name::of(alloc, b"t")?;
     let element = Name::of(alloc, b"a")?;
@@ -123,11 +123,20 @@ fn faults_of_tables(rt: HostRuntime) -> Result<(), Fail> {
     let table = Name::of(alloc, b"t")?;
     let element = Name::of(alloc, b"a")?;
     let square = Refusal::NotSquare { table, element };
-    let cases: [(Refusal, &[u8]); 4] = [
+    let (name, letter) = (Name::of(alloc, b"A")?, Name::of(alloc, b"n")?);
+    let not_total = Refusal::Automaton {
+        name,
+        letter: Some(letter),
+    };
+    let name = Name::of(alloc, b"T")?;
+    let too_many = Refusal::Automaton { name, letter: None };
+    let cases: [(Refusal, &[u8]); 6] = [
         (left, b"refused 26: table t: unit fails at a, left\n"),
         (right, b"refused 26: table t: unit fails at b, right\n"),
         (triple, b"refused 27: table t: not associative at a b c\n"),
         (square, b"refused 28: table t: not square at a\n"),
+        (not_total, b"refused 29: automaton A: not total at n\n"),
+        (too_many, b"refused 29: automaton T: more than 64 elements\n"),
     ];
     for (refusal, line) in cases {
         let said = fault_line(alloc, &refusal)?;

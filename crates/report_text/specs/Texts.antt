@@ -14,7 +14,7 @@ use Rattle.report_text.specs.declared.refusal.Refusal.TheVariants.{Number, NoRow
 use Rattle.report_text.specs.declared.refusal.Refusal.TheVariants.{Unknown, Twice, Missing}
 use Rattle.report_text.specs.declared.refusal.Refusal.TheVariants.{SecondPart, LabelsAssign, Limit}
 use Rattle.report_text.specs.declared.refusal.Refusal.TheVariants.{UnitFails, NotAssociative}
-use Rattle.report_text.specs.declared.refusal.Refusal.TheVariants.{NotSquare, NoHeader}
+use Rattle.report_text.specs.declared.refusal.Refusal.TheVariants.{NotSquare, Automaton, NoHeader}
 use Rattle.report_text.specs.declared.refusal.Refusal.TheVariants.{ColumnMissing, ColumnTwice}
 use Rattle.report_text.specs.declared.refusal.Refusal.TheVariants.{Length, Field, TooMany}
 use Rattle.report_text.specs.declared.refusal.Refusal.TheVariants.{Negative, Heavy, Keys}
@@ -111,9 +111,12 @@ at_row row text = codes "row " ++ (decimal (row + 1) ++ text)
 unfoldable pub at_test : ℕ → List ℕ → List ℕ
 at_test test text = codes "test " ++ (decimal (test + 1) ++ (codes ", " ++ text))
 
--- a text about a table or a column, by its name
+-- a text about a table, an automaton or a column, by its name
 unfoldable pub of_table : List ℕ → List ℕ → List ℕ
 of_table table text = codes "table " ++ (table ++ text)
+
+unfoldable pub of_automaton : List ℕ → List ℕ → List ℕ
+of_automaton automaton text = codes "automaton " ++ (automaton ++ text)
 
 unfoldable pub of_column : List ℕ → List ℕ → List ℕ
 of_column column text = codes "column " ++ (column ++ text)
@@ -135,6 +138,11 @@ triple_text a b c = a ++ (codes " " ++ (b ++ (codes " " ++ c)))
 abbrev pub side_text : Bool → List ℕ
 side_text true = codes ", left"
 side_text false = codes ", right"
+
+-- a letter on which an automaton isn't total, or the number of its functions
+unfoldable pub automaton_text : Option (List ℕ) → List ℕ
+automaton_text (Some letter) = codes ": not total at " ++ letter
+automaton_text None = codes ": more than 64 elements"
 
 -- the line of each refusal
 abbrev pub fault_text : Refusal → List ℕ
@@ -159,6 +167,7 @@ fault_text (NotAssociative table a b c) =
     refused 27 (of_table table (codes ": not associative at " ++ triple_text a b c))
 fault_text (NotSquare table element) =
     refused 28 (of_table table (codes ": not square at " ++ element))
+fault_text (Automaton name letter) = refused 29 (of_automaton name (automaton_text letter))
 fault_text Unbuilt = refused 1 (codes "not built yet")
 fault_text NoHeader = refused 31 (codes "no header")
 fault_text (ColumnMissing column) = refused 32 (of_column column (codes " missing"))

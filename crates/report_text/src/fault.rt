@@ -2,7 +2,7 @@
 ghost use Rattle.std.specs.Prelude.{◌≡◌, ℕ, ℤ, List, ◌++◌, Option, IfOk};
 ghost use Rattle.report_text.specs.Texts.{fault_text, refused, at_line, at_test};
 ghost use Rattle.report_text.specs.Texts.{value_text, labelled};
-ghost use Rattle.report_text.specs.Texts.{of_table, of_column, side_text, triple_text};
+ghost use Rattle.report_text.specs.Texts.{of_table, of_automaton, of_column, automaton_text, side_text, triple_text};
 
 use crate::frame::{around, at_line, at_row, joined, refused, row_text};
 use crate::refusal::Refusal;
@@ -34,6 +34,7 @@ pub fn fault_line(alloc: Global, refusal: &Refusal) -> Result<Vec<u8>, AllocErro
         } => unit_line(alloc, table, element, *left),
         Refusal::NotAssociative { table, a, b, c } => triple_line(alloc, table, a, b, c),
         Refusal::NotSquare { table, element } => square_line(alloc, table, element),
+        Refusal::Automaton { name, letter } => automaton_line(alloc, name, letter),
         Refusal::Unbuilt => refused(alloc, 1, b"not built yet"),
         Refusal::NoHeader => refused(alloc, 31, b"no header"),
         Refusal::ColumnMissing { column } => column_line(alloc, 32, column, b" missing"),
@@ -148,6 +149,29 @@ fn square_line(alloc: Global, table: &Name, element: &Name) -> Result<Vec<u8>, A
 {
     let text = joined(alloc, b": not square at ", element.bytes())?;
     table_line(alloc, 28, table, text.as_slice())
+}
+
+#[tactic(auto, unfolding(crate::specs::Texts::of_automaton))]
+fn automaton_line(
+    alloc: Global,
+    name: &Name,
+    letter: &Option<Name>,
+) -> Result<Vec<u8>, AllocError>
+    ensures { IfOk result (λ line. line.items ≡ fault_text (Refusal.Automaton name.now letter.now)) }
+{
+    let fault = automaton_text(alloc, letter)?;
+    let text = around(alloc, b"automaton ", name.bytes(), fault.as_slice())?;
+    refused(alloc, 29, text.as_slice())
+}
+
+#[tactic(auto, unfolding(crate::specs::Texts::automaton_text))]
+fn automaton_text(alloc: Global, letter: &Option<Name>) -> Result<Vec<u8>, AllocError>
+    ensures { IfOk result (λ text. text.items ≡ automaton_text letter.now) }
+{
+    match letter {
+        Some(letter) => joined(alloc, b": not total at ", letter.bytes()),
+        None => Vec::from_slice(alloc, b": more than 64 elements"),
+    }
 }
 
 // The line of the refusal of this number about a table.

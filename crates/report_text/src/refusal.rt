@@ -71,6 +71,12 @@ pub enum Refusal {
         table: Name,
         element: Name,
     },
+    /// The letter of the automaton has no line of steps, more than one, or one with another number of states than the
+    /// automaton; or, where no letter is told, more than 64 functions are those of words.
+    Automaton {
+        name: Name,
+        letter: Option<Name>,
+    },
     /// Several totals are asked for, one after the other, which isn't built yet.
     Unbuilt,
     /// The table has no record.

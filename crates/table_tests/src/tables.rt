@@ -34,6 +34,7 @@ fn with_columns(alloc: Global, columns: &[(&[u8], &[u8])]) -> Result<Option<Chec
         Vec::new(alloc),
         Vec::new(alloc),
         Vec::new(alloc),
+        Vec::new(alloc),
         None,
         Shape::Sublists,
         Goal::Count,

@@ -25,7 +25,7 @@ fn answer(alloc: Global, bytes: &[u8]) -> Result<Vec<u8>, Fail> {
 
 #[test]
 fn taken_texts(rt: HostRuntime) -> Result<(), Fail> {
-    let cases: [(&[u8], &[u8]); 28] = [
+    let cases: [(&[u8], &[u8]); 33] = [
         (b"gta 1\nrows\n", b"parts 0"),
         (b"# c\n\ngta 1 # d\r\n\nrows # e\nv\n1", b"parts 0"),
         (
@@ -69,6 +69,20 @@ fn taken_texts(rt: HostRuntime) -> Result<(), Fail> {
             b"gta 2\naggregate best 3 min a then min b then max c\nrows",
             b"parts 1",
         ),
+        (b"gta 2\ncolumns step run in\nrows", b"parts 1"),
+        (
+            b"gta 3\nautomaton A states s start s letters x\nrows",
+            b"parts 1",
+        ),
+        (b"gta 3\nstep A x=s t\nrows", b"parts 1"),
+        (
+            b"gta 3\ntest run A by x if v=1;y accept s t\nrows",
+            b"parts 1",
+        ),
+        (
+            b"gta 3\ntest a=run A by x accept s\nkeep a\nrows",
+            b"parts 2",
+        ),
     ];
     for (bytes, parts) in cases {
         let told = answer(rt.alloc(), bytes)?;
@@ -79,10 +93,10 @@ fn taken_texts(rt: HostRuntime) -> Result<(), Fail> {
 
 #[test]
 fn refusals(rt: HostRuntime) -> Result<(), Fail> {
-    let cases: [(&[u8], &[u8]); 47] = [
+    let cases: [(&[u8], &[u8]); 58] = [
         (b"", b"version 1"),
         (b"rows\n", b"version 1"),
-        (b"\n\n# c\n\ngta 3\nrows\n", b"version 5"),
+        (b"\n\n# c\n\ngta 4\nrows\n", b"version 5"),
         (b"gta 01\nrows\n", b"version 1"),
         (b"gta 1 1\nrows\n", b"version 1"),
         (b"gta\nrows\n", b"version 1"),
@@ -134,6 +148,29 @@ fn refusals(rt: HostRuntime) -> Result<(), Fail> {
         (b"gta 2\nkeep ()\nrows\n", b"grammar 2"),
         (b"gta 2\naggregate max a then b\nrows\n", b"grammar 2"),
         (b"gta 2\naggregate best 3 max a then\nrows\n", b"grammar 2"),
+        (
+            b"gta 2\nautomaton A states s start s letters x\nrows\n",
+            b"grammar 2",
+        ),
+        (b"gta 2\nstep A x = s\nrows\n", b"grammar 2"),
+        (b"gta 2\ntest run A by x accept s\nrows\n", b"grammar 2"),
+        (b"gta 3\ncolumns step\nrows\n", b"grammar 2"),
+        (b"gta 3\ncolumns then\nrows\n", b"grammar 2"),
+        (
+            b"gta 3\nautomaton A states s letters x\nrows\n",
+            b"grammar 2",
+        ),
+        (
+            b"gta 3\nautomaton A states start s letters x\nrows\n",
+            b"grammar 2",
+        ),
+        (b"gta 3\nstep A = s\nrows\n", b"grammar 2"),
+        (b"gta 3\nstep A x =\nrows\n", b"grammar 2"),
+        (b"gta 3\ntest run A by x\nrows\n", b"grammar 2"),
+        (
+            b"gta 3\ngenerate states p start p end p\nrows\n",
+            b"grammar 2",
+        ),
         (b"gta 1\n\x7f\nrows\n", b"byte 2 1"),
         (b"gta 1\ncolumns a\rb\nrows\n", b"byte 2 10"),
     ];
@@ -207,14 +244,15 @@ fn the_table_begins_behind_rows(rt: HostRuntime) -> Result<(), Fail> {
 // A text, and the version that its first line with tokens names.
 #[test]
 fn versions(rt: HostRuntime) -> Result<(), Fail> {
-    let cases: [(&[u8], Option<u8>); 8] = [
+    let cases: [(&[u8], Option<u8>); 9] = [
         (b"gta 1\n", Some(1)),
         (b"\xef\xbb\xbf# \xc3\n\n \tgta  2# c\r\nrows\n", Some(2)),
         (b"gta 2", Some(2)),
         (b"rows\ngta 2\n", None),
         (b"gta 02\n", None),
         (b"gta 2 \xc3\n", None),
-        (b"gta 3\n", None),
+        (b"gta 3\n", Some(3)),
+        (b"gta 4\n", None),
         (b"", None),
     ];
     for (bytes, version) in cases {

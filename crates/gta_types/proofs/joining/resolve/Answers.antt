@@ -130,9 +130,9 @@ checked_of-requires c =
     let one_goal = the_one new.goals.items c.remove-goal.result
     (ap (λ (xs : List Goal). length xs) (goals_drafted env parts c.len-columns.result old new fresh names drafted)
     ∙ one_goal_there parts sound) c.remove-goal.ensures.value in
-    let whole = is_resolved spec lists c.len-columns.result old new c.index-shape.result.now c.remove-goal.result
-    names items count tables fresh drafted one_shape one_goal in
-    within_limits spec c.requires.well_formed sound _ whole lists.tables_within
+    let whole = is_resolved spec lists c.args.automata.items c.len-columns.result old new c.index-shape.result.now
+    c.remove-goal.result names items count tables c.requires.automata fresh drafted one_shape one_goal in
+    within_limits spec c.requires.well_formed sound _ whole lists.tables_within c.requires.within
 
 pub returns : goal.returns
 returns c =
@@ -172,6 +172,6 @@ returns c =
     let one_goal = the_one new.goals.items c.remove-goal.result
     (ap (λ (xs : List Goal). length xs) (goals_drafted env parts c.len-columns.result old new fresh names drafted)
     ∙ one_goal_there parts sound) c.remove-goal.ensures.value in
-    let whole = is_resolved spec lists c.len-columns.result old new c.index-shape.result.now c.remove-goal.result
-    names items count tables fresh drafted one_shape one_goal in
+    let whole = is_resolved spec lists c.args.automata.items c.len-columns.result old new c.index-shape.result.now
+    c.remove-goal.result names items count tables c.requires.automata fresh drafted one_shape one_goal in
     rw c.checked_of.ensures whole
