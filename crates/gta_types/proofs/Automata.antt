@@ -1,11 +1,11 @@
 -- Automata by their numbers, and their states and letters by the automata's names.
 use Rattle.std.proofs.Common.{◌≡◌, ℕ, ◌<◌, Bool, true, List, [], ◌∷◌, ◌++◌, map, take, drop, length, get_or, All}
-use Rattle.std.proofs.Common.{Option, Some, None, ◌+◌, refl, ap, ◌∙◌, inl, inr}
+use Rattle.std.proofs.Common.{Option, Some, None, false, ◌+◌, refl, sym, ap, ◌∙◌, inl, inr, subst, arith}
 use Rattle.std.specs.List.{find}
 use Rattle.std.specs.Option.{option_or}
 use Rattle.std.specs.Str.{bytes_eq}
 use Rattle.std.proofs.lemmas.Bool.{cases_Bool}
-use Rattle.std.proofs.lemmas.List.{map-append}
+use Rattle.std.proofs.lemmas.List.{get_or-map, length-map, map-append}
 use Rattle.std.proofs.lemmas.List.Elements.{All-nil, All-cons}
 use Rattle.std.proofs.lemmas.List.Folds.{find-append}
 use Rattle.auto_monoid.specs.Auto.{PlainAuto}
@@ -14,7 +14,7 @@ use Rattle.gta_spec.specs.WellFormed.{EachFits}
 use Rattle.gta_checked.specs.Tables.{automaton_at, no_automaton}
 use Rattle.spec_automata.specs.Automata.{automaton_of}
 use Rattle.spec_tables.specs.Tables.{number_of}
-use Rattle.spec_tables.proofs.Fronts.{split_at}
+use Rattle.spec_tables.proofs.Fronts.{split_at, take_next}
 use Rattle.gta_types.specs.Resolved.{AutomatonNames, automaton_names, automaton_named, letters_listed, states_listed}
 use Rattle.gta_types.proofs.Tables.{one_further}
 
@@ -65,3 +65,19 @@ module _ {A : Type 0} (f : A → AutomatonNames) (x : List ℕ) where
       ∙ ap (find named) (map-append f (take i items) (item ∷ drop (i + 1) items))
       ∙ find-append named (map f (take i items)) (map f (item ∷ drop (i + 1) items))
       ∙ rw (before, here) refl
+
+  pub none_named_more : (items : List A) (i : ℕ) (item : A) → i < length items → item ≡ get_or items i item
+      → find named (map f (take i items)) ≡ None → bytes_eq (f item).name x ≡ false
+      → find named (map f (take (i + 1) items)) ≡ None
+  none_named_more items i item below is before other =
+      ap (λ (xs : List A). find named (map f xs)) (take_next items i item below is)
+      ∙ ap (find named) (map-append f (take i items) (item ∷ []))
+      ∙ find-append named (map f (take i items)) (map f (item ∷ []))
+      ∙ rw (before, other) refl
+
+pub one_of_all : {A B : Type 0} (F : B → Type 0) (f : A → B) (items : List A) (i : ℕ) (item : A)
+    → All F (map f items) → i < length items → item ≡ get_or items i item → F (f item)
+one_of_all F f items i item all below is =
+    let count = length-map items f in
+    let at : F (get_or (map f items) i (f item)) = all i (f item) (omega (arith, below, count)) in
+    subst F (get_or-map f items i item (f item) below ∙ ap f (sym is)) at

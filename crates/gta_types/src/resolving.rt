@@ -1,17 +1,18 @@
 //! Names replaced by their numbers.
 
-ghost use Rattle.std.specs.Prelude.{◌≡◌, ℕ, ◌<◌, ◌≤◌, ◌^◌, List, length, map, IfOk, false};
+ghost use Rattle.std.specs.Prelude.{◌≡◌, ℕ, ◌<◌, ◌≤◌, ◌^◌, List, length, map, option_map, IfOk, IfSome, false};
 ghost use Rattle.std.specs.List.{range_with_len};
 ghost use Rattle.monoid_kit.specs.declared.table.TheConstants.{GREATEST_TABLE};
 ghost use Rattle.auto_monoid.specs.declared.auto.TheConstants.{LETTER_LIMIT, STATE_LIMIT};
 ghost use Rattle.gta_spec.specs.Keep.{keep_map};
-ghost use Rattle.gta_spec.specs.Parts.{Aggregate, Fold, Run, case_tree, keep_tree, pick_tree, test_tree};
+ghost use Rattle.gta_spec.specs.Parts.{Aggregate, Fold, Run, automaton_tree, case_tree, keep_tree, pick_tree, test_tree};
 ghost use Rattle.gta_spec.specs.WellFormed.{EachFits};
 ghost use Rattle.gta_checked.specs.Plain.{plain_case, plain_keep, plain_measure, plain_pick, plain_test};
+ghost use Rattle.spec_automata.specs.Ready.{IsReadyAutomaton};
 ghost use Rattle.spec_rules.specs.SpecRules.{is_kept_past};
 ghost use Rattle.spec_tables.specs.Tables.{number_of};
-ghost use Rattle.gta_types.specs.Resolved.{elements_in, letters_listed, states_listed, automaton_named};
-ghost use Rattle.gta_types.specs.Resolved.{number_of_weight, signed, factor_of};
+ghost use Rattle.gta_types.specs.Resolved.{automaton_named, automaton_names, elements_in};
+ghost use Rattle.gta_types.specs.Resolved.{letters_listed, states_listed, number_of_weight, signed, factor_of};
 ghost use Rattle.gta_types.specs.Resolved.{resolved_term, resolved_atom, resolved_case, resolved_pick};
 ghost use Rattle.gta_types.specs.Resolved.{resolved_test, resolved_rank, resolved_goal, column_measure};
 ghost use Rattle.gta_types.specs.Ready.{IsFactorReady, IsCaseReady};
@@ -251,30 +252,44 @@ fn automaton_number(automata: &[&AutomatonPart], name: &Name) -> u32
     automata.len() as u32
 }
 
-/// The letters of the first automaton of a name; none where there is no such automaton.
-fn letters_of<'a>(lists: &Lists<'a>, name: &Name) -> &'a [Name]
-    ensures few { length result.now ≤ LETTER_LIMIT }
-    ensures letters { result.now ≡ letters_listed (automaton_named (environment_of lists.now).automata name.now) }
+/// The first automaton of a name.
+fn automaton_named<'a>(lists: &Lists<'a>, name: &Name) -> Option<&'a AutomatonPart>
+    ensures ready { IfSome result (λ line. IsReadyAutomaton (automaton_tree line.now)) }
+    ensures named { option_map (λ line. automaton_names (automaton_tree line.now)) result
+        ≡ automaton_named (environment_of lists.now).automata name.now }
 {
     for automaton in lists.automata.as_slice() {
         if automaton.name.bytes() == name.bytes() {
-            return automaton.letters.as_slice();
+            return Some(*automaton);
         }
     }
-    &[]
+    None
 }
 
-/// The states of the first automaton of a name; none where there is no such automaton.
-fn states_of<'a>(lists: &Lists<'a>, name: &Name) -> &'a [Name]
-    ensures few { length result.now ≤ STATE_LIMIT }
-    ensures states { result.now ≡ states_listed (automaton_named (environment_of lists.now).automata name.now) }
+/// The letters of an automaton; none where there is none.
+fn letters_of(automaton: Option<&AutomatonPart>) -> &[Name]
+    requires ready { IfSome automaton (λ line. IsReadyAutomaton (automaton_tree line.now)) }
+    ensures few { length result.now ≤ LETTER_LIMIT }
+    ensures letters { result.now
+        ≡ letters_listed (option_map (λ line. automaton_names (automaton_tree line.now)) automaton.entry) }
 {
-    for automaton in lists.automata.as_slice() {
-        if automaton.name.bytes() == name.bytes() {
-            return automaton.states.as_slice();
-        }
+    match automaton {
+        Some(automaton) => automaton.letters.as_slice(),
+        None => &[],
     }
-    &[]
+}
+
+/// The states of an automaton; none where there is none.
+fn states_of(automaton: Option<&AutomatonPart>) -> &[Name]
+    requires ready { IfSome automaton (λ line. IsReadyAutomaton (automaton_tree line.now)) }
+    ensures few { length result.now ≤ STATE_LIMIT }
+    ensures states { result.now
+        ≡ states_listed (option_map (λ line. automaton_names (automaton_tree line.now)) automaton.entry) }
+{
+    match automaton {
+        Some(automaton) => automaton.states.as_slice(),
+        None => &[],
+    }
 }
 
 /// A fold: its table's number, and its elements by their numbers in that table.
@@ -308,10 +323,11 @@ fn resolve_run(
     ensures { IfOk result (λ test. plain_test test ≡ resolved_test (environment_of lists.now)
         (Run name.now (map pick_tree picks.now) accept.now)) }
 {
+    let automaton = automaton_named(lists, name);
     Ok(Test::Run {
         automaton: automaton_number(lists.automata.as_slice(), name),
-        picks: resolve_picks(alloc, lists, letters_of(lists, name), picks)?,
-        accept: numbers_of(alloc, states_of(lists, name), accept)?,
+        picks: resolve_picks(alloc, lists, letters_of(automaton), picks)?,
+        accept: numbers_of(alloc, states_of(automaton), accept)?,
     })
 }
 
