@@ -56,29 +56,29 @@ pub is_resolved : (spec : SpecTree) (lists : Lists) (automata : List AutoMonoid)
     new.named.items new.keep shape goal)
 is_resolved spec lists automata columns old new shape goal names items count tables machines fresh drafted one_shape
     one_goal = record {
-  version = refl;
-  columns = items;
-  labels = ap (λ (e : Environment). e.labels) names;
-  measures = drafted.measures
-      ∙ ap (λ (xs : List (List PlainCase)). xs ++ flat_map
-      (λ (part : PartTree). declared_measures (environment_of lists) part.kind) spec.parts) fresh.measures
-      ∙ ap (λ (n : ℕ). map column_measure (range_with_len 0 n) ++ flat_map
-      (λ (part : PartTree). declared_measures (environment_of lists) part.kind) spec.parts) count
-      ∙ ap (λ (e : Environment). map column_measure
-      (range_with_len 0 (length (environment spec.parts).columns)) ++ flat_map
-      (λ (part : PartTree). declared_measures e part.kind) spec.parts) names;
-  tables = tables;
-  automata = machines;
-  tests = drafted.tests
-      ∙ ap (λ (xs : List Test). map plain_test xs ++ flat_map
-      (λ (part : PartTree). tests_of (environment_of lists) part.kind) spec.parts) fresh.tests
-      ∙ ap (λ (e : Environment). flat_map (λ (part : PartTree). tests_of e part.kind) spec.parts) names;
-  named = drafted.named
-      ∙ ap (λ (xs : List Bool). xs ++ flat_map (λ (part : PartTree). named_of part.kind) spec.parts) fresh.named;
-  keep = drafted.keep
-      ∙ ap (λ (k : Option Keep). option_or (plain_keep_if k) (first_of (flat_map
-      (λ (part : PartTree). keeps_of (environment_of lists) part.kind) spec.parts))) fresh.keep
-      ∙ ap (λ (e : Environment). first_of (flat_map (λ (part : PartTree). keeps_of e part.kind) spec.parts)) names;
-  shape = one_shape ∙ shapes_drafted (environment_of lists) spec.parts columns old new fresh drafted;
-  goal = one_goal ∙ goals_drafted (environment_of lists) spec.parts columns old new fresh names drafted;
-}
+      version = refl;
+      columns = items;
+      labels = ap (λ (e : Environment). e.labels) names;
+      measures = drafted.measures
+          ∙ ap (λ (xs : List (List PlainCase)). xs ++ flat_map
+          (λ (part : PartTree). declared_measures (environment_of lists) part.kind) spec.parts) fresh.measures
+          ∙ ap (λ (n : ℕ). map column_measure (range_with_len 0 n) ++ flat_map
+          (λ (part : PartTree). declared_measures (environment_of lists) part.kind) spec.parts) count
+          ∙ ap (λ (e : Environment). map column_measure
+          (range_with_len 0 (length (environment spec.parts).columns)) ++ flat_map
+          (λ (part : PartTree). declared_measures e part.kind) spec.parts) names;
+      tables = tables;
+      automata = machines;
+      tests = drafted.tests
+          ∙ ap (λ (xs : List Test). map plain_test xs ++ flat_map
+          (λ (part : PartTree). tests_of (environment_of lists) part.kind) spec.parts) fresh.tests
+          ∙ ap (λ (e : Environment). flat_map (λ (part : PartTree). tests_of e part.kind) spec.parts) names;
+      named = drafted.named
+          ∙ ap (λ (xs : List Bool). xs ++ flat_map (λ (part : PartTree). named_of part.kind) spec.parts) fresh.named;
+      keep = drafted.keep
+          ∙ ap (λ (k : Option Keep). option_or (plain_keep_if k) (first_of (flat_map
+          (λ (part : PartTree). keeps_of (environment_of lists) part.kind) spec.parts))) fresh.keep
+          ∙ ap (λ (e : Environment). first_of (flat_map (λ (part : PartTree). keeps_of e part.kind) spec.parts)) names;
+      shape = one_shape ∙ shapes_drafted (environment_of lists) spec.parts columns old new fresh drafted;
+      goal = one_goal ∙ goals_drafted (environment_of lists) spec.parts columns old new fresh names drafted;
+    }

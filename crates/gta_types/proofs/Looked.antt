@@ -105,9 +105,9 @@ none_of_line a l line x (Automaton part) ne =
     (map (declare line (Inner Letter)) part.letters)
     ∙ rw (
       list_any_none_map (is_named (scope_within a l) x) (declare line (Inner State))
-      (λ name. apart a l line x name (Inner State) ne) part.states,
+          (λ name. apart a l line x name (Inner State) ne) part.states,
       list_any_none_map (is_named (scope_within a l) x) (declare line (Inner Letter))
-      (λ name. apart a l line x name (Inner Letter) ne) part.letters,
+          (λ name. apart a l line x name (Inner Letter) ne) part.letters,
     ) refl)
 none_of_line a l line x (Step part) ne = refl
 none_of_line a l line x (Generate shape) ne = refl

@@ -14,8 +14,8 @@ use crate::naming::check_names;
 use gta_checked::Checked;
 use gta_spec::Spec;
 use gta_text::Name;
-use spec_rules::{Limit, RuleFault, SinglePart, rule_fault};
 use spec_automata::checked_automata;
+use spec_rules::{Limit, RuleFault, SinglePart, rule_fault};
 use spec_tables::checked_tables;
 use std::alloc::{AllocError, Global};
 

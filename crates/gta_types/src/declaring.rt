@@ -104,12 +104,27 @@ fn declare_part<'a>(
         PartKind::Measure(part) => declare_one(all, line, NameKind::AMeasure, &part.name),
         PartKind::Table(part) => {
             declare_one(all, line, NameKind::ATable, &part.name)?;
-            declare_names(all, line, NameKind::Inner(InnerKind::Element), part.elements.as_slice())
+            declare_names(
+                all,
+                line,
+                NameKind::Inner(InnerKind::Element),
+                part.elements.as_slice(),
+            )
         }
         PartKind::Automaton(part) => {
             declare_one(all, line, NameKind::AnAutomaton, &part.name)?;
-            declare_names(all, line, NameKind::Inner(InnerKind::State), part.states.as_slice())?;
-            declare_names(all, line, NameKind::Inner(InnerKind::Letter), part.letters.as_slice())
+            declare_names(
+                all,
+                line,
+                NameKind::Inner(InnerKind::State),
+                part.states.as_slice(),
+            )?;
+            declare_names(
+                all,
+                line,
+                NameKind::Inner(InnerKind::Letter),
+                part.letters.as_slice(),
+            )
         }
         PartKind::Named { name, .. } => declare_one(all, line, NameKind::ATest, name),
         _ => Ok(()),

@@ -21,7 +21,8 @@ ghost use Rattle.gta_types.specs.Lists.{environment_of};
 use crate::lists::Lists;
 use gta_checked::{Atom, Case, Goal, Keep, Measure, Pick, Rank, Table, Term, Test};
 use gta_spec::{
-    AtomPart, AutomatonPart, CasePart, ColumnItem, GoalPart, KeepPart, PickPart, RankPart, TermPart, TestPart,
+    AtomPart, AutomatonPart, CasePart, ColumnItem, GoalPart, KeepPart, PickPart, RankPart,
+    TermPart, TestPart,
 };
 use gta_text::Name;
 use spec_tables::number_in;

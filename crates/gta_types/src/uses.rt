@@ -68,7 +68,9 @@ fn has_inner<'a>(names: &Names<'a>, kind: InnerKind, of: Option<Found>, name: &'
 {
     match of {
         Some(line) if line.kind == home(kind) => {
-            names.look(scope_within(kind, line.line), name.bytes()).is_some()
+            names
+                .look(scope_within(kind, line.line), name.bytes())
+                .is_some()
         }
         _ => true,
     }
@@ -302,7 +304,15 @@ fn in_run<'a>(
         return found;
     }
     let of = names.look(0, automaton.bytes());
-    in_picks_and_accepted(names, line, of, InnerKind::Letter, picks, InnerKind::State, accept)
+    in_picks_and_accepted(
+        names,
+        line,
+        of,
+        InnerKind::Letter,
+        picks,
+        InnerKind::State,
+        accept,
+    )
 }
 
 fn in_test<'a>(names: &Names<'a>, line: u32, test: &'a TestPart) -> Option<Place<'a>>
@@ -379,7 +389,13 @@ fn in_times<'a>(names: &Names<'a>, line: u32, times: &'a TimesPart) -> Option<Pl
     if found_element.is_some() {
         return found_element;
     }
-    in_inner_names(names, line, InnerKind::Element, of, times.products.as_slice())
+    in_inner_names(
+        names,
+        line,
+        InnerKind::Element,
+        of,
+        times.products.as_slice(),
+    )
 }
 
 fn in_step<'a>(names: &Names<'a>, line: u32, step: &'a StepPart) -> Option<Place<'a>>

@@ -136,7 +136,10 @@ fn faults_of_tables_and_automata(rt: HostRuntime) -> Result<(), Fail> {
         (triple, b"refused 27: table t: not associative at a b c\n"),
         (square, b"refused 28: table t: not square at a\n"),
         (not_total, b"refused 29: automaton A: not total at n\n"),
-        (too_many, b"refused 29: automaton T: more than 64 elements\n"),
+        (
+            too_many,
+            b"refused 29: automaton T: more than 64 elements\n",
+        ),
     ];
     for (refusal, line) in cases {
         let said = fault_line(alloc, &refusal)?;

@@ -152,11 +152,7 @@ fn square_line(alloc: Global, table: &Name, element: &Name) -> Result<Vec<u8>, A
 }
 
 #[tactic(auto, unfolding(crate::specs::Texts::of_automaton))]
-fn automaton_line(
-    alloc: Global,
-    name: &Name,
-    letter: &Option<Name>,
-) -> Result<Vec<u8>, AllocError>
+fn automaton_line(alloc: Global, name: &Name, letter: &Option<Name>) -> Result<Vec<u8>, AllocError>
     ensures { IfOk result (λ line. line.items ≡ fault_text (Refusal.Automaton name.now letter.now)) }
 {
     let fault = automaton_text(alloc, letter)?;
