@@ -80,7 +80,8 @@ other_list a line x name kind other =
     rw scopes refl
 
 no_others : (a : InnerKind) (line : ℕ) (x : List ℕ) (kind : NameKind) (xs : List (List ℕ))
-    → same_kind kind (Inner a) ≡ false → list_any (is_named (scope_within a line) x) (map (declare line kind) xs) ≡ false
+    → same_kind kind (Inner a) ≡ false
+    → list_any (is_named (scope_within a line) x) (map (declare line kind) xs) ≡ false
 no_others a line x kind xs other =
     list_any_none_map (is_named (scope_within a line) x) (declare line kind)
     (λ name. other_list a line x name kind other) xs

@@ -65,9 +65,11 @@ fn checked_of(
     goal: Goal,
 ) -> Checked
     requires { IsWithinLimits (plain_checked version lists.columns.items lists.labels.items
-        draft.measures.items lists.tables.items automata.items draft.tests.items draft.named.items draft.keep shape goal) }
+        draft.measures.items lists.tables.items automata.items draft.tests.items draft.named.items draft.keep
+        shape goal) }
     ensures { result ≡ plain_checked version lists.entry.columns.items lists.entry.labels.items
-        draft.measures.items lists.entry.tables.items automata.items draft.tests.items draft.named.items draft.keep shape goal }
+        draft.measures.items lists.entry.tables.items automata.items draft.tests.items draft.named.items draft.keep
+        shape goal }
 {
     Checked::of(
         version,

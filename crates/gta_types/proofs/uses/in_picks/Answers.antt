@@ -20,7 +20,8 @@ returns-then-is_some c = λ home same.
     (pick_tree pick)) xs c.loop-pick.pick-index
     c.pick-item.result c.in_pick-found.result lt c.pick-item.is (c.loop-pick.invariant home same)
     (c.in_pick-found.ensures home same) c.if-is_some.ensures
-    ∙ ap (unknown_in c.args.names.now) (sym (flat_map-map (uses_of_pick c.args.line (Within c.args.kind home)) pick_tree xs))
+    ∙ ap (unknown_in c.args.names.now)
+    (sym (flat_map-map (uses_of_pick c.args.line (Within c.args.kind home)) pick_tree xs))
 
 pub loop-pick-preserved : goal.loop-pick-preserved
 loop-pick-preserved c = λ home same.
@@ -35,7 +36,8 @@ pub returns : goal.returns
 returns c = λ home same.
     let xs = c.args.picks.now in
     let all : take c.loop-pick.pick-index xs ≡ xs = take_all _ xs (omega arith) in
-    sym (ap (unknown_in c.args.names.now) (flat_map-map (uses_of_pick c.args.line (Within c.args.kind home)) pick_tree xs)
+    sym (ap (unknown_in c.args.names.now)
+    (flat_map-map (uses_of_pick c.args.line (Within c.args.kind home)) pick_tree xs)
     ∙ ap (λ (ys : List _). unknown_in c.args.names.now
     (flat_map (λ (pick : PickPart). uses_of_pick c.args.line (Within c.args.kind home) (pick_tree pick)) ys))
     (sym all) ∙ c.loop-pick.invariant home same)
