@@ -27,6 +27,16 @@ fn job(alloc: Global, lines: &[&[u8]], cells: &[u8]) -> Result<Vec<u8>, Fail> {
     Ok(input)
 }
 
+/// A job of version 3 that counts choices of no row, from its lines besides.
+fn counted(alloc: Global, lines: &[&[u8]]) -> Result<Vec<u8>, Fail> {
+    let mut input = Vec::from_slice(alloc, b"gta 3\ncolumns v\ngenerate sublists\n")?;
+    for line in lines {
+        input.extend_from_slice(line)?;
+    }
+    input.extend_from_slice(b"aggregate count\nrows\nv\n")?;
+    Ok(input)
+}
+
 // The lines of a job over 1, -1 and 1, and its answer.
 #[test]
 fn answers_of_runs(rt: HostRuntime) -> Result<(), Fail> {
@@ -198,11 +208,7 @@ fn refusals_of_automata(rt: HostRuntime) -> Result<(), Fail> {
         ),
     ];
     for (lines, refusal) in cases {
-        let mut input = Vec::from_slice(rt.alloc(), b"gta 3\ncolumns v\ngenerate sublists\n")?;
-        for line in lines {
-            input.extend_from_slice(line)?;
-        }
-        input.extend_from_slice(b"aggregate count\nrows\nv\n")?;
+        let input = counted(rt.alloc(), lines)?;
         for command in ["run", "list", "show"] {
             let ended = called(&rt, rt.alloc(), &[command], input.as_slice(), SMOOTH)?;
             assert_eq!(rt; ended.err.as_slice(), refusal, "{command} at {lines:?}");
