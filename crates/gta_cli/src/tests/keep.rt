@@ -148,7 +148,7 @@ fn refusals_of_version_2(rt: HostRuntime) -> Result<(), Fail> {
             b"refused 12: line 2: not in the grammar\n",
         ),
         (
-            b"gta 3\nrows\n",
+            b"gta 4\nrows\n",
             b"refused 11: line 1: not a known gta version\n",
         ),
         (
