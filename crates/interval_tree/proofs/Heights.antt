@@ -35,6 +35,25 @@ module _ {V : Type 0} (stands : ℕ → ℕ → V → Type 0) where
       let is : max (height left) (height right) + 1 ≡ height left + 1 = omega arith in
       subst (λ n. 2 ^ n < 2 * (hi - lo)) (sym is) (omega arith)
 
+  -- the left side is as high as the right one at least
+  pub height_of_rows : (lo hi : ℕ) (p : _) (left : Node V) (mid : ℕ) (w : V) (q : _) (right : Node V)
+      → Holds stands lo hi (Rows' p left mid w q right) → height (Rows' p left mid w q right) ≡ height left + 1
+  height_of_rows lo hi p left mid w q right (a, b, c, d, e, f, g) =
+      let on_the_right : 2 ^ height right < 2 * (hi - mid) = height_bound mid hi right f b in
+      let twice : 2 ^ (height left + 1) ≡ 2 ^ height left * 2 = pow_more (height left) in
+      let lower : height right < height left + 1 = pow_below_back (height right) (height left + 1) (omega arith) in
+      omega arith
+
+  -- with as many rows on the right as on the left there are as many as the height allows
+  pub height_of_full : (lo hi : ℕ) (p : _) (left : Node V) (mid : ℕ) (w : V) (q : _) (right : Node V)
+      → Holds stands lo hi (Rows' p left mid w q right) → hi - mid ≡ mid - lo
+      → hi ≡ lo + 2 ^ height (Rows' p left mid w q right)
+  height_of_full lo hi p left mid w q right (a, b, c, d, e, f, g) same =
+      let is : height (Rows' p left mid w q right) ≡ height left + 1 =
+      height_of_rows lo hi p left mid w q right (a, b, c, d, e, f, g) in
+      let twice : 2 ^ (height left + 1) ≡ 2 ^ height left * 2 = pow_more (height left) in
+      subst (λ n. hi ≡ lo + 2 ^ n) (sym is) (omega arith)
+
 pub half_fits : (level : ℕ) → level < 32 → 1 * 2 ^ level % 4294967296 ≡ 2 ^ level
 half_fits level below =
     let fits : 2 ^ level < 2 ^ 32 = pow-lt below in

@@ -1,4 +1,5 @@
 -- Lemmas on nodes and their heights.
 pub mod Nodes
 pub mod Heights
+pub mod Ends
 pub mod Trees

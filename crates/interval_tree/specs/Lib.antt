@@ -2,5 +2,6 @@
 pub mod Node
 pub mod Levels
 pub mod Path
+pub mod Ends
 pub mod Tree
 pub mod Editable

@@ -6,8 +6,10 @@
 mod build;
 mod editable;
 mod edits;
+mod grown;
 mod node;
 mod replace;
+mod shrunk;
 mod tree;
 
 pub use editable::Editable;
