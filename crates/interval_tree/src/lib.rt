@@ -6,6 +6,7 @@
 mod build;
 mod editable;
 mod edits;
+mod last_row;
 mod grown;
 mod node;
 mod replace;
