@@ -6,8 +6,8 @@
 mod build;
 mod editable;
 mod edits;
-mod last_row;
 mod grown;
+mod last_row;
 mod node;
 mod replace;
 mod shrunk;

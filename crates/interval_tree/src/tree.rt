@@ -1,11 +1,13 @@
 //! A plan and the values of its rows, which stay those of the plan as its rows are edited.
 
-ghost use Rattle.std.specs.Prelude.{◌≡◌, ◌+◌, ◌*◌, ◌<◌, ◌≤◌, ◌↔◌, IfOk, IfSome, OnErr, OnOk, Some};
+ghost use Rattle.std.specs.Prelude.{◌≡◌, ◌+◌, ◌*◌, ◌^◌, ◌<◌, ◌≤◌, ◌↔◌, IfOk, IfSome, OnErr, OnOk, Some};
+ghost use Rattle.std.specs.Prelude.{if◌then◌else◌, nat_le};
 ghost use Rattle.interval_tree.specs.Levels.{levels};
 
 use crate::build::node_of;
 use crate::editable::Editable;
 use crate::edits::set_row;
+use crate::last_row::{pop_row, push_row};
 use crate::node::Node;
 use std::alloc::{AllocError, Global};
 use std::marker::Model;
@@ -81,5 +83,37 @@ impl<F: Editable> Tree<F> {
             + F.join_bound self.old.plan * (2 * levels (F.rows self.old.plan)) }
     {
         set_row(alloc, &mut self.plan, &mut self.root, row, new, steps)
+    }
+    /// Adds a row at the end. It takes memory for the row and the new values, and without it the tree is as before.
+    pub fn push<L: Ledger>(
+        &mut self,
+        alloc: Global,
+        new: F::Row,
+        steps: &mut Steps<L>,
+    ) -> Result<(), AllocError>
+        requires has_room { F.rows self.old.plan + 1 < 2 ^ 32 }
+        requires may_push { F.may_push self.old.plan new }
+        ensures plan { OnOk result (self.new.plan ≡ F.after_push self.old.plan new) }
+        ensures unchanged { OnErr result (self.new ≡ self.old) }
+        ensures cost { steps.new ≤ steps.old + F.leaf_bound self.old.plan 1
+            + F.join_bound self.old.plan * (2 * levels (F.rows self.old.plan + 1)) }
+    {
+        push_row(alloc, &mut self.plan, &mut self.root, new, steps)
+    }
+
+    /// Takes the last row away, and tells whether there was one: without rows the tree is as before. It takes memory for
+    /// the new values, and without it the tree is as before.
+    pub fn pop<L: Ledger>(
+        &mut self,
+        alloc: Global,
+        steps: &mut Steps<L>,
+    ) -> Result<bool, AllocError>
+        ensures some_row { IfOk result (λ popped. popped ≡ nat_le 1 (F.rows self.old.plan)) }
+        ensures plan { OnOk result (self.new.plan
+            ≡ (if nat_le 1 (F.rows self.old.plan) then F.after_pop self.old.plan else self.old.plan)) }
+        ensures unchanged { OnErr result (self.new ≡ self.old) }
+        ensures cost { steps.new ≤ steps.old + F.join_bound self.old.plan * (2 * levels (F.rows self.old.plan)) }
+    {
+        pop_row(alloc, &mut self.plan, &mut self.root, steps)
     }
 }
