@@ -10,14 +10,15 @@ use step_count::Steps;
 /// The value of an interval is the number of its rows. Calls of leaf and join are counted from 1, and the one of this
 /// number finds no memory.
 #[derive(Drop)]
-pub(crate) struct Counting {
-    pub(crate) rows: u32,
-    pub(crate) calls: AtomicU64,
-    pub(crate) refused: u64,
+pub struct Counting {
+    pub rows: u32,
+    pub calls: AtomicU64,
+    pub refused: u64,
 }
 
 impl Counting {
-    pub(crate) fn new(rows: u32, refused: u64) -> Counting {
+    /// A plan of so many rows, of whose calls the one of this number finds no memory; 0 is none.
+    pub fn new(rows: u32, refused: u64) -> Counting {
         Counting {
             rows,
             calls: AtomicU64::new(0),

@@ -2,7 +2,6 @@
 //! a crate of their own, since a crate with tests is proved twice.
 #![tactic(auto)]
 
-#[cfg(test)]
-mod counting;
+pub mod counting;
 #[cfg(test)]
 mod edits;
