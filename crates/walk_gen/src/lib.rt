@@ -4,9 +4,11 @@
 #![tactic(auto)]
 
 mod counting;
+mod law;
 #[cfg(test)]
 mod tests;
 mod walker;
 
 pub use counting::walk_sizes;
+pub use law::walks_are_cut_anywhere;
 pub use walker::{Move, STATE_LIMIT, Walker};

@@ -1,7 +1,6 @@
 use Rattle.std.proofs.Common.{◌≡◌, ◌<◌, ◌++◌, [], ◌∷◌, None, length, get_or, set, take, refl, sym, ap, subst, ◌∙◌, arith}
 use Rattle.std.proofs.lemmas.Grind.{take_at_read}
 use Rattle.std.proofs.lemmas.List.{length-set, take_all}
-use Rattle.shape_gen.specs.declared.counting.Extent.{Extent}
 use Rattle.walk_gen.specs.declared.walker.Move.{Move}
 use Rattle.walk_gen.specs.Walks.{moved}
 use Rattle.walk_gen.specs.Extents.{HaveExtents, joined, no_candidate, with_row}
