@@ -1,10 +1,10 @@
 //! Worked sums and products, through the trait. The functions that make them serve lists of any entries.
 
-ghost use Rattle.std.specs.Prelude.{◌≡◌, ◌<◌, IfOk};
+ghost use Rattle.std.specs.Prelude.{◌≡◌, ◌<◌, ◌≤◌, IfOk};
 ghost use Rattle.step_count.specs.Blanks.{IsBlankOf};
 ghost use Rattle.semiring_kit.specs.Semiring.{IsGood};
 
-use best_k::{Best, BestK};
+use best_k::{Best, BestK, Entry};
 use semiring_kit::Semiring;
 use shape_gen::Mark;
 use std::alloc::{AllocError, Global};
@@ -59,6 +59,36 @@ pub(crate) fn sum_of_candidates<S: Semiring, L: Ledger>(
     Ok(sum)
 }
 
+// A choice of nothing or of the row, at this weight.
+fn choice<S: Semiring>(kit: &S, alloc: Global, row: u32, weight: i32) -> Result<S::Elem, AllocError>
+    ensures sound { IfOk result (S.ring kit.now).is_sound }
+    ensures light { IfOk result (λ elem. (S.ring kit.now).reach elem ≤ 2147483648) }
+{
+    let left = kit.one(alloc)?;
+    let taken = kit.of_mark(alloc, Mark { row, label: 0 }, i64::from(weight))?;
+    kit.add(alloc, &left, &taken)
+}
+
+// The product of the choices of rows, at these weights.
+fn product_of_choices<S: Semiring, L: Ledger>(
+    kit: &S,
+    alloc: Global,
+    weights: &[i32],
+    steps: &mut Steps<L>,
+) -> Result<S::Elem, AllocError> {
+    let mut product = kit.one(alloc)?;
+    if weights.len() > MOST {
+        return Ok(product);
+    }
+    let mut row = 0;
+    'rows: for weight in weights {
+        let choice = choice(kit, alloc, row, *weight)?;
+        product = kit.mul(alloc, &product, &choice, steps)?;
+        row = row.saturating_add(1);
+    }
+    Ok(product)
+}
+
 // The product over rows, of which each is left or taken, at these weights.
 pub(crate) fn sublists<S: Semiring, L: Ledger>(
     kit: &S,
@@ -69,96 +99,115 @@ pub(crate) fn sublists<S: Semiring, L: Ledger>(
     requires blank { IsBlankOf L.name L.parts blank }
 {
     let mut steps = Steps::<L>::new(blank);
-    let mut product = kit.one(alloc)?;
-    if weights.len() > MOST {
-        return Ok(product);
+    product_of_choices(kit, alloc, weights, &mut steps)
+}
+
+// The rows of the marks are these.
+fn are_rows(marks: &[Mark], expected: &[u32]) -> bool {
+    if marks.len() != expected.len() {
+        return false;
     }
-    let mut row = 0;
-    'rows: for weight in weights {
-        let left = kit.one(alloc)?;
-        let taken = kit.of_mark(alloc, Mark { row, label: 0 }, i64::from(*weight))?;
-        let choice = kit.add(alloc, &left, &taken)?;
-        product = kit.mul(alloc, &product, &choice, &mut steps)?;
-        row = row.saturating_add(1);
+    for (mark, row) in marks.iter().zip(expected) {
+        if mark.row != *row {
+            return false;
+        }
     }
-    Ok(product)
+    true
 }
 
 // The totals and the rows of the entries are these.
-pub(crate) fn is_answer(
-    rt: &impl Abort,
-    alloc: Global,
-    best: &Best,
-    expected: &[(i64, &[u32])],
-) -> Result<(), Fail> {
-    assert_eq!(rt; best.entries().len(), expected.len(), "at {expected:?}");
-    for (entry, (total, rows)) in best.entries().iter().zip(expected) {
-        assert_eq!(rt; entry.total, *total, "at {expected:?}");
-        let marks = entry.witness.marks();
-        let taken: Vec<u32> = marks.iter().map(|mark| mark.row).collect(alloc)?;
-        assert_eq!(rt; taken.as_slice(), *rows, "at {expected:?}");
+fn are_entries(entries: &[Entry], expected: &[(i64, &[u32])]) -> bool {
+    if entries.len() != expected.len() {
+        return false;
+    }
+    for (entry, (total, rows)) in entries.iter().zip(expected) {
+        if entry.total != *total || !are_rows(entry.witness.marks(), rows) {
+            return false;
+        }
+    }
+    true
+}
+
+// The totals and the rows of the entries are these.
+pub(crate) fn assert_answer(rt: &impl Abort, best: &Best, expected: &[(i64, &[u32])]) {
+    assert!(rt;
+        are_entries(best.entries(), expected),
+        "{best:?} is not {expected:?}"
+    );
+}
+
+// How many are listed, whether the greatest totals are, the candidates, each by its rows and weights, and the first.
+pub(crate) const CANDIDATES: [(u32, bool, &[&[(u32, i32)]], &[(i64, &[u32])]); 4] = [
+    (
+        3,
+        true,
+        &[&[(1, 0)], &[(0, 0), (1, 0)], &[(2, 0)], &[], &[(0, 0)]],
+        &[(0, &[]), (0, &[0]), (0, &[1])],
+    ),
+    (
+        3,
+        true,
+        &[&[], &[(0, 1)], &[(1, 2)], &[(0, 1), (1, 2)], &[(2, 3)]],
+        &[(3, &[2]), (3, &[0, 1]), (2, &[1])],
+    ),
+    (
+        2,
+        false,
+        &[&[(0, 5)], &[(1, -2)], &[(2, 4)]],
+        &[(-2, &[1]), (4, &[2])],
+    ),
+    (
+        3,
+        true,
+        &[&[(0, 1), (1, 2)], &[(2, 3)], &[(0, 1), (2, 2)], &[(1, 3)]],
+        &[(3, &[1]), (3, &[2]), (3, &[0, 1])],
+    ),
+];
+
+// The same of all sublists of rows at these weights.
+pub(crate) const SUBLISTS: [(u32, bool, &[i32], &[(i64, &[u32])]); 5] = [
+    (3, true, &[0, 0, 0], &[(0, &[]), (0, &[0]), (0, &[1])]),
+    (
+        4,
+        false,
+        &[1, -1, 1, -1],
+        &[(-2, &[1, 3]), (-1, &[1]), (-1, &[3]), (-1, &[0, 1, 3])],
+    ),
+    (
+        2,
+        true,
+        &[60, 100, 120],
+        &[(280, &[0, 1, 2]), (220, &[1, 2])],
+    ),
+    (3, false, &[2, -1, 3], &[(-1, &[1]), (0, &[]), (1, &[0, 1])]),
+    (
+        64,
+        true,
+        &[1, 1],
+        &[(2, &[0, 1]), (1, &[0]), (1, &[1]), (0, &[])],
+    ),
+];
+
+#[test]
+fn the_first_of_some_candidates(rt: HostRuntime) -> Result<(), Fail> {
+    let alloc = rt.alloc();
+    for (k, greatest, candidates, expected) in CANDIDATES {
+        assert!(rt; 1 <= k && k <= 64);
+        let kit = BestK { k, greatest };
+        let best = sum_of_candidates::<BestK, Brand>(&kit, alloc, candidates, Blank::new(1))?;
+        assert_answer(&rt, &best, expected);
     }
     Ok(())
 }
 
 #[test]
-fn the_first_of_some_candidates(rt: HostRuntime) -> Result<(), Fail> {
-    let alloc = rt.alloc();
-    let three = BestK {
-        k: 3,
-        greatest: true,
-    };
-    let zeros = sum_of_candidates::<BestK, Brand>(
-        &three,
-        alloc,
-        &[&[(1, 0)], &[(0, 0), (1, 0)], &[(2, 0)], &[], &[(0, 0)]],
-        Blank::new(1),
-    )?;
-    is_answer(&rt, alloc, &zeros, &[(0, &[]), (0, &[0]), (0, &[1])])?;
-    let within = sum_of_candidates::<BestK, Brand>(
-        &three,
-        alloc,
-        &[&[], &[(0, 1)], &[(1, 2)], &[(0, 1), (1, 2)], &[(2, 3)]],
-        Blank::new(1),
-    )?;
-    is_answer(&rt, alloc, &within, &[(3, &[2]), (3, &[0, 1]), (2, &[1])])?;
-    let least = BestK {
-        k: 2,
-        greatest: false,
-    };
-    let lightest = sum_of_candidates::<BestK, Brand>(
-        &least,
-        alloc,
-        &[&[(0, 5)], &[(1, -2)], &[(2, 4)]],
-        Blank::new(1),
-    )?;
-    is_answer(&rt, alloc, &lightest, &[(-2, &[1]), (4, &[2])])
-}
-
-#[test]
 fn the_first_of_all_sublists(rt: HostRuntime) -> Result<(), Fail> {
     let alloc = rt.alloc();
-    let cases: [(u32, bool, &[i32], &[(i64, &[u32])]); 4] = [
-        (3, true, &[0, 0, 0], &[(0, &[]), (0, &[0]), (0, &[1])]),
-        (
-            2,
-            true,
-            &[60, 100, 120],
-            &[(280, &[0, 1, 2]), (220, &[1, 2])],
-        ),
-        (3, false, &[2, -1, 3], &[(-1, &[1]), (0, &[]), (1, &[0, 1])]),
-        (
-            64,
-            true,
-            &[1, 1],
-            &[(2, &[0, 1]), (1, &[0]), (1, &[1]), (0, &[])],
-        ),
-    ];
-    for (k, greatest, weights, expected) in cases {
+    for (k, greatest, weights, expected) in SUBLISTS {
         assert!(rt; 1 <= k && k <= 64);
         let kit = BestK { k, greatest };
         let best = sublists::<BestK, Brand>(&kit, alloc, weights, Blank::new(1))?;
-        is_answer(&rt, alloc, &best, expected)?;
+        assert_answer(&rt, &best, expected);
     }
     Ok(())
 }

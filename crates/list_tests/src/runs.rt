@@ -1,31 +1,94 @@
 //! Marks kept as runs: which runs they are, how they compare, and the best lists over them.
-use crate::best_lists::{is_answer, sublists, sum_of_candidates};
+use crate::best_lists::{CANDIDATES, SUBLISTS, assert_answer, sublists, sum_of_candidates};
 use best_k::{RunsByTotal, best_sums_are_aggregates, listed, run_sums_are_aggregates};
 use first_k::FirstK;
-use mark_runs::Runs;
+use mark_runs::{Run, Runs};
 use shape_gen::Mark;
 use std::alloc::{AllocError, Global};
 use std::cmp::Ordering;
 use std::marker::Brand;
+use std::process::Abort;
 use std::sync::ledger::Blank;
 use std::test::Fail;
 use witness_order::shortlex;
 
-// The runs of these marks, each a row and a label, joined one by one.
-fn of_marks(alloc: Global, marks: &[(u32, u32)]) -> Result<Runs, AllocError> {
+// Marks, each a row and a label.
+type Marks<'a> = &'a [(u32, u32)];
+
+// These runs and one mark more, joined.
+fn joined_to(alloc: Global, runs: &Runs, mark: Mark) -> Result<Runs, AllocError> {
+    let next = Runs::of_mark(alloc, mark)?;
+    Runs::joined(alloc, runs, &next)
+}
+
+// The runs of these marks, joined one by one.
+fn of_marks(alloc: Global, marks: Marks) -> Result<Runs, AllocError> {
     let mut runs = Runs::none(alloc);
     for (row, label) in marks {
-        let (row, label) = (*row, *label);
-        let next = Runs::of_mark(alloc, Mark { row, label })?;
-        runs = Runs::joined(alloc, &runs, &next)?;
+        let mark = Mark {
+            row: *row,
+            label: *label,
+        };
+        runs = joined_to(alloc, &runs, mark)?;
     }
     Ok(runs)
+}
+
+// The runs are these, each a row, a count and a label.
+fn are_runs(runs: &[Run], expected: &[(u32, u32, u32)]) -> bool {
+    if runs.len() != expected.len() {
+        return false;
+    }
+    for (run, (row, count, label)) in runs.iter().zip(expected) {
+        if run.row != *row || run.count != *count || run.label != *label {
+            return false;
+        }
+    }
+    true
+}
+
+// The marks are these.
+fn are_marks(marks: &[Mark], expected: Marks) -> bool {
+    if marks.len() != expected.len() {
+        return false;
+    }
+    for (mark, (row, label)) in marks.iter().zip(expected) {
+        if mark.row != *row || mark.label != *label {
+            return false;
+        }
+    }
+    true
+}
+
+fn assert_runs(rt: &impl Abort, runs: &[Run], expected: &[(u32, u32, u32)]) {
+    assert!(rt; are_runs(runs, expected), "{runs:?} are not {expected:?}");
+}
+
+fn assert_marks(rt: &impl Abort, marks: &[Mark], expected: Marks) {
+    assert!(rt;
+        are_marks(marks, expected),
+        "{marks:?} are not {expected:?}"
+    );
+}
+
+// The marks, joined one by one, are these runs, and one by one themselves.
+fn assert_joined(
+    rt: &impl Abort,
+    alloc: Global,
+    marks: Marks,
+    expected: &[(u32, u32, u32)],
+) -> Result<(), Fail> {
+    let runs = of_marks(alloc, marks)?;
+    assert_runs(rt, runs.runs(), expected);
+    let witness = runs.witness(alloc)?;
+    assert_marks(rt, witness.marks(), marks);
+    Ok(())
 }
 
 #[test]
 fn marks_that_go_on_are_one_run(rt: HostRuntime) -> Result<(), Fail> {
     let alloc = rt.alloc();
-    let cases: [(&[(u32, u32)], &[(u32, u32, u32)]); 9] = [
+    let cases: [(Marks, &[(u32, u32, u32)]); 9] = [
         (&[], &[]),
         (&[(4, 0)], &[(4, 1, 0)]),
         (&[(0, 0), (1, 0), (2, 0)], &[(0, 3, 0)]),
@@ -40,24 +103,58 @@ fn marks_that_go_on_are_one_run(rt: HostRuntime) -> Result<(), Fail> {
         (&[(4294967294, 7), (4294967295, 7)], &[(4294967294, 2, 7)]),
     ];
     for (marks, expected) in cases {
-        let runs = of_marks(alloc, marks)?;
-        let shown = runs.runs().iter();
-        let shown: Vec<(u32, u32, u32)> = shown
-            .map(|run| (run.row, run.count, run.label))
-            .collect(alloc)?;
-        assert_eq!(rt; shown.as_slice(), expected, "at {marks:?}");
-        let witness = runs.witness(alloc)?;
-        let single = witness.marks().iter();
-        let single: Vec<(u32, u32)> = single.map(|mark| (mark.row, mark.label)).collect(alloc)?;
-        assert_eq!(rt; single.as_slice(), marks, "at {marks:?}");
+        assert_joined(&rt, alloc, marks, expected)?;
     }
+    Ok(())
+}
+
+// How the marks compare one by one.
+fn compared_singly(alloc: Global, left: &Runs, right: &Runs) -> Result<Ordering, AllocError> {
+    let left = left.witness(alloc)?;
+    let right = right.witness(alloc)?;
+    Ok(shortlex(&left, &right))
+}
+
+// How a copy compares with the runs that it is of.
+fn compared_with_copy(alloc: Global, runs: &Runs) -> Result<Ordering, AllocError> {
+    let copy = Runs::copied(alloc, runs)?;
+    Ok(Runs::shortlex(&copy, runs))
+}
+
+// How the left marks compare with the right ones, as runs and one by one, and how a copy of the left runs does with
+// them.
+fn orders_of_marks(
+    alloc: Global,
+    left: Marks,
+    right: Marks,
+) -> Result<(Ordering, Ordering, Ordering), AllocError> {
+    let left = of_marks(alloc, left)?;
+    let right = of_marks(alloc, right)?;
+    let singly = compared_singly(alloc, &left, &right)?;
+    let with_copy = compared_with_copy(alloc, &left)?;
+    Ok((Runs::shortlex(&left, &right), singly, with_copy))
+}
+
+fn assert_orders(
+    rt: &impl Abort,
+    alloc: Global,
+    left: Marks,
+    right: Marks,
+    order: Ordering,
+) -> Result<(), Fail> {
+    let orders = orders_of_marks(alloc, left, right)?;
+    assert_eq!(rt;
+        orders,
+        (order, order, Ordering::Equal),
+        "at {left:?} and {right:?}"
+    );
     Ok(())
 }
 
 #[test]
 fn runs_compare_as_their_marks(rt: HostRuntime) -> Result<(), Fail> {
     let alloc = rt.alloc();
-    let cases: [(&[(u32, u32)], &[(u32, u32)], Ordering); 9] = [
+    let cases: [(Marks, Marks, Ordering); 9] = [
         (&[], &[], Ordering::Equal),
         (&[], &[(0, 0)], Ordering::Less),
         (&[(9, 0)], &[(0, 0), (1, 0)], Ordering::Less),
@@ -77,37 +174,100 @@ fn runs_compare_as_their_marks(rt: HostRuntime) -> Result<(), Fail> {
         (&[(1, 1), (2, 0)], &[(1, 0), (2, 1)], Ordering::Greater),
     ];
     for (left, right, order) in cases {
-        let (a, b) = (of_marks(alloc, left)?, of_marks(alloc, right)?);
-        assert_eq!(rt; Runs::shortlex(&a, &b), order, "at {left:?} and {right:?}");
-        let (x, y) = (a.witness(alloc)?, b.witness(alloc)?);
-        assert_eq!(rt; shortlex(&x, &y), order, "at {left:?} and {right:?}");
-        let copy = Runs::copied(alloc, &a)?;
-        assert_eq!(rt; Runs::shortlex(&copy, &a), Ordering::Equal, "at {left:?}");
+        assert_orders(&rt, alloc, left, right, order)?;
+    }
+    Ok(())
+}
+
+// How a and b joined compare with c and d joined: walked, and made.
+fn walked_and_made(
+    alloc: Global,
+    (a, b): (&Runs, &Runs),
+    (c, d): (&Runs, &Runs),
+) -> Result<(Ordering, Ordering), AllocError> {
+    let left = Runs::joined(alloc, a, b)?;
+    let right = Runs::joined(alloc, c, d)?;
+    let walked = Runs::shortlex_joined(a, b, c, d);
+    Ok((walked, Runs::shortlex(&left, &right)))
+}
+
+// The same, where c and d are given by their marks.
+fn orders_before(
+    alloc: Global,
+    left: (&Runs, &Runs),
+    right: (Marks, Marks),
+) -> Result<(Ordering, Ordering), AllocError> {
+    let c = of_marks(alloc, right.0)?;
+    let d = of_marks(alloc, right.1)?;
+    walked_and_made(alloc, left, (&c, &d))
+}
+
+// The same, where all four are given by their marks.
+fn orders_of_joins(
+    alloc: Global,
+    left: (Marks, Marks),
+    right: (Marks, Marks),
+) -> Result<(Ordering, Ordering), AllocError> {
+    let a = of_marks(alloc, left.0)?;
+    let b = of_marks(alloc, left.1)?;
+    orders_before(alloc, (&a, &b), right)
+}
+
+fn assert_joins(
+    rt: &impl Abort,
+    alloc: Global,
+    left: (Marks, Marks),
+    right: (Marks, Marks),
+    order: Ordering,
+) -> Result<(), Fail> {
+    let orders = orders_of_joins(alloc, left, right)?;
+    assert_eq!(rt; orders, (order, order), "at {left:?} and {right:?}");
+    Ok(())
+}
+
+const ROWS: Marks = &[(0, 0), (1, 0), (2, 0)];
+
+const FRONT: Marks = &[(0, 0)];
+
+const BACK: Marks = &[(1, 0), (2, 0)];
+
+const FAR: Marks = &[(1, 0), (3, 0)];
+
+const NONE: Marks = &[];
+
+#[test]
+fn joins_compare_wherever_they_are_cut(rt: HostRuntime) -> Result<(), Fail> {
+    let alloc = rt.alloc();
+    let cases = [
+        (ROWS, NONE, NONE, ROWS, Ordering::Equal),
+        (ROWS, NONE, FRONT, BACK, Ordering::Equal),
+        (FRONT, BACK, FRONT, FAR, Ordering::Less),
+        (FRONT, FAR, ROWS, NONE, Ordering::Greater),
+        (BACK, FRONT, FRONT, BACK, Ordering::Greater),
+        (FRONT, NONE, NONE, BACK, Ordering::Less),
+        (NONE, NONE, NONE, NONE, Ordering::Equal),
+    ];
+    for (a, b, c, d, order) in cases {
+        assert_joins(&rt, alloc, (a, b), (c, d), order)?;
     }
     Ok(())
 }
 
 #[test]
-fn joins_compare_wherever_they_are_cut(rt: HostRuntime) -> Result<(), Fail> {
+fn the_first_of_some_candidates_over_runs(rt: HostRuntime) -> Result<(), Fail> {
     let alloc = rt.alloc();
-    let rows = of_marks(alloc, &[(0, 0), (1, 0), (2, 0)])?;
-    let front = of_marks(alloc, &[(0, 0)])?;
-    let back = of_marks(alloc, &[(1, 0), (2, 0)])?;
-    let far = of_marks(alloc, &[(1, 0), (3, 0)])?;
-    let none = Runs::none(alloc);
-    let cases = [
-        (&rows, &none, &none, &rows, Ordering::Equal),
-        (&rows, &none, &front, &back, Ordering::Equal),
-        (&front, &back, &front, &far, Ordering::Less),
-        (&front, &far, &rows, &none, Ordering::Greater),
-        (&back, &front, &front, &back, Ordering::Greater),
-        (&front, &none, &none, &back, Ordering::Less),
-        (&none, &none, &none, &none, Ordering::Equal),
-    ];
-    for (a, b, c, d, order) in cases {
-        assert_eq!(rt; Runs::shortlex_joined(a, b, c, d), order);
-        let (left, right) = (Runs::joined(alloc, a, b)?, Runs::joined(alloc, c, d)?);
-        assert_eq!(rt; Runs::shortlex(&left, &right), order);
+    for (k, greatest, candidates, expected) in CANDIDATES {
+        assert!(rt; 1 <= k && k <= 64);
+        let ranked = RunsByTotal { greatest };
+        let kit = FirstK { ranked, k };
+        let firsts = sum_of_candidates::<FirstK<RunsByTotal>, Brand>(
+            &kit,
+            alloc,
+            candidates,
+            Blank::new(1),
+        )?;
+        let best = listed(alloc, &firsts)?;
+        assert_answer(&rt, &best, expected);
     }
     Ok(())
 }
@@ -115,61 +275,19 @@ fn joins_compare_wherever_they_are_cut(rt: HostRuntime) -> Result<(), Fail> {
 #[test]
 fn the_first_of_all_sublists_over_runs(rt: HostRuntime) -> Result<(), Fail> {
     let alloc = rt.alloc();
-    let cases: [(u32, bool, &[i32], &[(i64, &[u32])]); 5] = [
-        (3, true, &[0, 0, 0], &[(0, &[]), (0, &[0]), (0, &[1])]),
-        (
-            4,
-            false,
-            &[1, -1, 1, -1],
-            &[(-2, &[1, 3]), (-1, &[1]), (-1, &[3]), (-1, &[0, 1, 3])],
-        ),
-        (
-            2,
-            true,
-            &[60, 100, 120],
-            &[(280, &[0, 1, 2]), (220, &[1, 2])],
-        ),
-        (3, false, &[2, -1, 3], &[(-1, &[1]), (0, &[]), (1, &[0, 1])]),
-        (
-            64,
-            true,
-            &[1, 1],
-            &[(2, &[0, 1]), (1, &[0]), (1, &[1]), (0, &[])],
-        ),
-    ];
-    for (k, greatest, weights, expected) in cases {
+    for (k, greatest, weights, expected) in SUBLISTS {
         assert!(rt; 1 <= k && k <= 64);
         let ranked = RunsByTotal { greatest };
         let kit = FirstK { ranked, k };
         let firsts = sublists::<FirstK<RunsByTotal>, Brand>(&kit, alloc, weights, Blank::new(1))?;
-        is_answer(&rt, alloc, &listed(alloc, &firsts)?, expected)?;
+        let best = listed(alloc, &firsts)?;
+        assert_answer(&rt, &best, expected);
     }
     Ok(())
 }
 
 #[test]
-fn the_first_of_equal_totals_over_runs(rt: HostRuntime) -> Result<(), Fail> {
-    let alloc = rt.alloc();
+fn the_laws_of_sums(_rt: HostRuntime) {
     best_sums_are_aggregates();
     run_sums_are_aggregates();
-    let kit = FirstK {
-        ranked: RunsByTotal { greatest: true },
-        k: 3,
-    };
-    let zeros = sum_of_candidates::<FirstK<RunsByTotal>, Brand>(
-        &kit,
-        alloc,
-        &[&[(1, 0)], &[(0, 0), (1, 0)], &[(2, 0)], &[], &[(0, 0)]],
-        Blank::new(1),
-    )?;
-    let zeros = listed(alloc, &zeros)?;
-    is_answer(&rt, alloc, &zeros, &[(0, &[]), (0, &[0]), (0, &[1])])?;
-    let threes = sum_of_candidates::<FirstK<RunsByTotal>, Brand>(
-        &kit,
-        alloc,
-        &[&[(0, 1), (1, 2)], &[(2, 3)], &[(0, 1), (2, 2)], &[(1, 3)]],
-        Blank::new(1),
-    )?;
-    let threes = listed(alloc, &threes)?;
-    is_answer(&rt, alloc, &threes, &[(3, &[1]), (3, &[2]), (3, &[0, 1])])
 }
