@@ -63,7 +63,7 @@ const SMOOTH: Ports = Ports {
 };
 
 /// What a run left behind, and how often the source, the output and the error output failed.
-#[derive(Drop)]
+#[derive(Debug, Drop)]
 struct Ended {
     status: u8,
     out: Vec<u8>,
@@ -112,6 +112,28 @@ fn with_head(alloc: Global, cells: &[u8]) -> Result<Vec<u8>, Fail> {
     Ok(input)
 }
 
+/// Whether a call ended with this status, this output and this error output.
+fn is_ended(ended: &Ended, status: u8, out: &[u8], err: &[u8]) -> bool {
+    ended.status == status && ended.out.as_slice() == out && ended.err.as_slice() == err
+}
+
+/// A call with these words ends with this status, this output and this error output.
+fn assert_called<R: Threads + Abort + Sync>(
+    rt: &R,
+    alloc: Global,
+    texts: &[&str],
+    (input, ports): (&[u8], Ports),
+    status: u8,
+    (out, err): (&[u8], &[u8]),
+) -> Result<(), Fail> {
+    let ended = called(rt, alloc, texts, input, ports)?;
+    assert!(rt;
+        is_ended(&ended, status, out, err),
+        "{texts:?} at {input:?} ends with {ended:?}"
+    );
+    Ok(())
+}
+
 /// What a run of each input prints to the output and to the error output, by whichever crew. It ends with status 0
 /// where nothing is on the error output, and else with status 1.
 fn assert_runs<R: Threads + Abort + Sync>(
@@ -121,19 +143,8 @@ fn assert_runs<R: Threads + Abort + Sync>(
 ) -> Result<(), Fail> {
     for (input, out, err) in cases {
         for texts in RUNS {
-            let ended = called(rt, alloc, texts, input, SMOOTH)?;
             let status = if err.is_empty() { 0 } else { 1 };
-            assert_eq!(rt;
-                ended.out.as_slice(),
-                *out,
-                "output of {texts:?} at {input:?}"
-            );
-            assert_eq!(rt;
-                ended.err.as_slice(),
-                *err,
-                "error output of {texts:?} at {input:?}"
-            );
-            assert_eq!(rt; ended.status, status, "status of {texts:?} at {input:?}");
+            assert_called(rt, alloc, texts, (input, SMOOTH), status, (out, err))?;
         }
     }
     Ok(())
@@ -406,11 +417,8 @@ fn faults_at_each_call(rt: HostRuntime) -> Result<(), Fail> {
     ];
     let input = with_head(rt.alloc(), b"3\n-1\n4\n")?;
     for (word, ports, status, out, err) in cases {
-        let ended = called(&rt, rt.alloc(), &[word], input.as_slice(), ports)?;
-        let fails = (ports.source_fails, ports.out_fails, ports.err_fails);
-        assert_eq!(rt; ended.status, status, "status at {fails:?}");
-        assert_eq!(rt; ended.out.as_slice(), out, "output at {fails:?}");
-        assert_eq!(rt; ended.err.as_slice(), err, "error output at {fails:?}");
+        let input = (input.as_slice(), ports);
+        assert_called(&rt, rt.alloc(), &[word], input, status, (out, err))?;
     }
     Ok(())
 }

@@ -1,7 +1,31 @@
 //! The commands `list` and `drill`, and options, over the top call.
 
-use super::{HEAD, Ports, SMOOTH, USAGE, called, job_of};
+use super::{HEAD, Ports, SMOOTH, USAGE, assert_called, called, job_of};
+use std::alloc::Global;
+use std::process::Abort;
 use std::test::Fail;
+use std::thread::Threads;
+
+/// What a list of a job prints to the output and to the error output.
+fn assert_listed<R: Threads + Abort + Sync>(
+    rt: &R,
+    alloc: Global,
+    lines: &[u8],
+    cells: &[u8],
+    out: &[u8],
+    err: &[u8],
+) -> Result<(), Fail> {
+    let input = job_of(alloc, lines, cells)?;
+    let status = if err.is_empty() { 0 } else { 1 };
+    assert_called(
+        rt,
+        alloc,
+        &["list"],
+        (input.as_slice(), SMOOTH),
+        status,
+        (out, err),
+    )
+}
 
 // The lines of a job and its cells, and what `list` prints to the output and to the error output.
 #[test]
@@ -69,12 +93,7 @@ fn candidates_that_are_listed(rt: HostRuntime) -> Result<(), Fail> {
         ),
     ];
     for (lines, cells, out, err) in cases {
-        let input = job_of(rt.alloc(), lines, cells)?;
-        let ended = called(&rt, rt.alloc(), &["list"], input.as_slice(), SMOOTH)?;
-        let status = if err.is_empty() { 0 } else { 1 };
-        assert_eq!(rt; ended.out.as_slice(), out, "output at {cells:?}");
-        assert_eq!(rt; ended.err.as_slice(), err, "error output at {cells:?}");
-        assert_eq!(rt; ended.status, status, "status at {cells:?}");
+        assert_listed(&rt, rt.alloc(), lines, cells, out, err)?;
     }
     Ok(())
 }

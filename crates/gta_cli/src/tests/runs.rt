@@ -1,6 +1,6 @@
 //! Tests written as automata over the top call: version 3 of the language.
 
-use super::{SMOOTH, assert_runs, called};
+use super::{SMOOTH, assert_called, assert_runs, called};
 use std::alloc::Global;
 use std::test::Fail;
 
@@ -210,8 +210,8 @@ fn refusals_of_automata(rt: HostRuntime) -> Result<(), Fail> {
     for (lines, refusal) in cases {
         let input = counted(rt.alloc(), lines)?;
         for command in ["run", "list", "show"] {
-            let ended = called(&rt, rt.alloc(), &[command], input.as_slice(), SMOOTH)?;
-            assert_eq!(rt; ended.err.as_slice(), refusal, "{command} at {lines:?}");
+            let input = (input.as_slice(), SMOOTH);
+            assert_called(&rt, rt.alloc(), &[command], input, 1, (b"", refusal))?;
         }
     }
     Ok(())

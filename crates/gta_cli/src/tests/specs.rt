@@ -1,9 +1,11 @@
 //! Specifications over the top call: the refusals in their order, each limit, and the canonical text.
 
-use super::{SMOOTH, called};
+use super::{SMOOTH, assert_called, called};
 use std::alloc::Global;
 use std::fmt::Write;
+use std::process::Abort;
 use std::test::Fail;
+use std::thread::Threads;
 
 // A specification, and the line of its first refusal.
 #[test]
@@ -182,10 +184,7 @@ fn refusals_in_their_order(rt: HostRuntime) -> Result<(), Fail> {
     ];
     for (input, line) in cases {
         for word in ["show", "run"] {
-            let ended = called(&rt, rt.alloc(), &[word], input, SMOOTH)?;
-            assert_eq!(rt; ended.status, 1, "status at {input:?}");
-            assert_eq!(rt; ended.out.len(), 0, "output at {input:?}");
-            assert_eq!(rt; ended.err.as_slice(), line, "error output at {input:?}");
+            assert_called(&rt, rt.alloc(), &[word], (input, SMOOTH), 1, (b"", line))?;
         }
     }
     Ok(())
@@ -219,6 +218,37 @@ fn grown(alloc: Global, text: &Growing, count: u32) -> Result<String, Fail> {
     }
     out.push_str(text.tail)?;
     Ok(out)
+}
+
+// With as many pieces as there may be it is shown, but for a table that isn't square.
+fn assert_most<R: Threads + Abort + Sync>(
+    rt: &R,
+    alloc: Global,
+    text: &Growing,
+) -> Result<(), Fail> {
+    let most = grown(alloc, text, text.most)?;
+    let ended = called(rt, alloc, &["show"], most.as_bytes(), SMOOTH)?;
+    let is_right = (ended.status == 1) == text.table && ended.out.is_empty() == text.table;
+    assert!(rt; is_right, "at {most:?}");
+    Ok(())
+}
+
+// With one more it is refused.
+fn assert_past<R: Threads + Abort + Sync>(
+    rt: &R,
+    alloc: Global,
+    text: &Growing,
+) -> Result<(), Fail> {
+    let past = grown(alloc, text, text.past)?;
+    let words: &[&str] = &["show"];
+    assert_called(
+        rt,
+        alloc,
+        words,
+        (past.as_bytes(), SMOOTH),
+        1,
+        (b"", text.refused),
+    )
 }
 
 #[test]
@@ -344,14 +374,8 @@ fn limits_of_what_grows(rt: HostRuntime) -> Result<(), Fail> {
         },
     ];
     for text in texts {
-        let most = grown(rt.alloc(), &text, text.most)?;
-        let ended = called(&rt, rt.alloc(), &["show"], most.as_bytes(), SMOOTH)?;
-        let status = if text.table { 1 } else { 0 };
-        assert_eq!(rt; ended.status, status, "at {most:?}");
-        assert_eq!(rt; ended.out.is_empty(), text.table, "at {most:?}");
-        let past = grown(rt.alloc(), &text, text.past)?;
-        let ended = called(&rt, rt.alloc(), &["show"], past.as_bytes(), SMOOTH)?;
-        assert_eq!(rt; ended.err.as_slice(), text.refused, "at {past:?}");
+        assert_most(&rt, rt.alloc(), &text)?;
+        assert_past(&rt, rt.alloc(), &text)?;
     }
     Ok(())
 }
