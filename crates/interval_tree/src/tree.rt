@@ -101,8 +101,8 @@ impl<F: Editable> Tree<F> {
         push_row(alloc, &mut self.plan, &mut self.root, new, steps)
     }
 
-    /// Takes the last row away, and tells whether there was one: without rows the tree is as before. It takes memory for
-    /// the new values, and without it the tree is as before.
+    /// Takes the last row away, and tells whether there was one: without rows the tree is as before. It takes memory
+    /// for the new values, and without it the tree is as before.
     pub fn pop<L: Ledger>(
         &mut self,
         alloc: Global,

@@ -1,5 +1,7 @@
 //! A plan whose values count the rows of their interval, and whose rows are edited.
 
+ghost use Rattle.std.specs.Prelude.{◌≡◌};
+
 use interval_kit::Fused;
 use interval_tree::Editable;
 use std::alloc::{AllocError, Global};
@@ -18,7 +20,10 @@ pub struct Counting {
 
 impl Counting {
     /// A plan of so many rows, of whose calls the one of this number finds no memory; 0 is none.
-    pub fn new(rows: u32, refused: u64) -> Counting {
+    pub fn new(rows: u32, refused: u64) -> Counting
+        ensures rows { result.rows ≡ rows }
+        ensures refused { result.refused ≡ refused }
+    {
         Counting {
             rows,
             calls: AtomicU64::new(0),

@@ -38,7 +38,7 @@ marks_longer m (c ∷ cs) =
     let rest = marks_longer m cs in
     let back = sum_by-cons length c cs in omega (arith, whole, rest, back)
 
-map_bare : (xs : List (List Mark)) → map (λ rest. [] ++ rest) xs ≡ xs
+pub map_bare : (xs : List (List Mark)) → map (λ rest. [] ++ rest) xs ≡ xs
 map_bare [] = refl
 map_bare (x ∷ xs) = ap (λ ys. x ∷ ys) (map_bare xs)
 

@@ -6,20 +6,13 @@ use Rattle.std.specs.List.Sorted.{IsPermutation}
 use Rattle.std.proofs.lemmas.List.{append-nil, map-append}
 use Rattle.std.proofs.lemmas.List.Sorted.{IsPermutation-refl, IsPermutation-map, IsPermutation-trans}
 use Rattle.std.proofs.lemmas.Grind.{flat_map-append}
+use Rattle.shape_gen.proofs.Lists.{flat_map-same}
 use Rattle.shape_gen.specs.declared.mark.Mark.{Mark}
 use Rattle.walk_gen.specs.declared.walker.Move.{Move}
 use Rattle.walk_gen.specs.Walks.{IsBetween, at_end, between, is_end, moved, taken, walks}
 use Rattle.walk_gen.specs.Splits.{EndsAtEnds, SplitsAnywhere, joints}
 use Rattle.walk_gen.proofs.Orders.{each_moved, none_of_each, of_one, swapped}
-use Rattle.walk_gen.proofs.Sizes.{step}
-
-same_each : {A B : Type 0} (f g : A → List B) (xs : List A) → ((x : A) → f x ≡ g x) → flat_map f xs ≡ flat_map g xs
-same_each f g [] same = refl
-same_each f g (x ∷ xs) same = rw (same x, same_each f g xs same) refl
-
-map_bare : (ds : List (List Mark)) → map (λ d. [] ++ d) ds ≡ ds
-map_bare [] = refl
-map_bare (d ∷ ds) = ap (λ l. d ∷ l) (map_bare ds)
+use Rattle.walk_gen.proofs.Sizes.{map_bare, step}
 
 behind_none : (ds : List (List Mark)) → joints ([] ∷ []) ds ≡ ds
 behind_none ds = append-nil (map (λ d. [] ++ d) ds) ∙ map_bare ds
@@ -88,13 +81,11 @@ module _ (moves : List Move) (states : ℕ) (within : All (IsBetween states) mov
       (range_with_len 0 states)
 
   pub walks_cut : (a first state : ℕ) → state < states
-      → IsPermutation (walks moves ends first (a + b) state)
-      (flat_map (λ r. joints (walks moves (nat_eq r) first a state) (walks moves ends (first + a) b r))
-      (range_with_len 0 states))
+      → IsPermutation (walks moves ends first (a + b) state) (cut a first state)
   walks_cut zero first state below =
       let alone : flat_map (λ r. joints (at_end (nat_eq r) state) (walks moves ends (first + 0) b r))
       (range_with_len 0 states) ≡ walks moves ends first b state =
-      same_each _ _ (range_with_len 0 states)
+      flat_map-same _ _ (range_with_len 0 states)
       (λ r. joints-at_end r state (walks moves ends (first + 0) b r))
       ∙ of_one (λ r. walks moves ends (first + 0) b r) state 0 states (omega arith) (omega arith)
       ∙ ap (λ n. walks moves ends n b state) (let e : first + 0 ≡ first = omega arith in e) in
@@ -114,7 +105,7 @@ module _ (moves : List Move) (states : ℕ) (within : All (IsBetween states) mov
       let by_move : IsPermutation (moved moves first (walks moves ends (first + 1) (a + b)) state)
       (flat_map (λ m. flat_map (pair m) (range_with_len 0 states)) moves) =
       subst (λ l. IsPermutation (moved moves first (walks moves ends (first + 1) (a + b)) state) l)
-      (same_each _ _ moves (λ m. step_by_state first state m (λ r. joints (rest r m.to) (later r))
+      (flat_map-same _ _ moves (λ m. step_by_state first state m (λ r. joints (rest r m.to) (later r))
       (range_with_len 0 states)))
       (each_moved (IsBetween states) (step first (walks moves ends (first + 1) (a + b)) state)
       (λ m. cond (nat_eq m.from state) (map (λ l. taken first m.take ++ l) (there m)) []) moves within
@@ -125,7 +116,7 @@ module _ (moves : List Move) (states : ℕ) (within : All (IsBetween states) mov
       let one_more : suc (a + b) ≡ suc a + b = omega arith in
       subst (λ n. IsPermutation (walks moves ends first n state) (cut (suc a) first state)) one_more
       (subst (λ l. IsPermutation (moved moves first (walks moves ends (first + 1) (a + b)) state) l)
-      (sym (same_each _ _ (range_with_len 0 states)
+      (sym (flat_map-same _ _ (range_with_len 0 states)
       (λ r. joints-moved moves first (rest r) state (later r))))
       (IsPermutation-trans _ _ _ by_move (swapped pair moves (range_with_len 0 states))))
     where
