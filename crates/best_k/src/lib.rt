@@ -9,7 +9,6 @@ mod best;
 mod entry;
 mod kit;
 mod run_entry;
-mod total;
 
 pub use aggregate::{best_sums_are_aggregates, run_sums_are_aggregates};
 pub use best::Best;

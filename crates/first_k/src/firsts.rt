@@ -33,6 +33,13 @@ impl<T> Firsts<T> {
         self.items.as_slice()
     }
 
+    /// The items, in their order. Takes no memory.
+    pub fn into_items(self) -> Vec<T>
+        ensures { result.items ≡ self }
+    {
+        self.items
+    }
+
     /// The items, to be moved out one by one. Takes no memory.
     pub fn into_queue(self) -> VecDeque<T>
         ensures { result.items ≡ self }

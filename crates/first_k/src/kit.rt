@@ -1,5 +1,5 @@
 //! The semiring of the first k. The operations are in specs/FirstK.antt.
-ghost use Rattle.std.specs.Prelude.{◌≡◌, ◌≤◌, [], ◌∷◌, ◌++◌, IfOk, unsigned_abs};
+ghost use Rattle.std.specs.Prelude.{◌≡◌, ◌≤◌, [], ◌∷◌, ◌++◌, IfOk};
 ghost use Rattle.witness_order.specs.Ranked.{first_of, Ascends};
 
 use crate::firsts::Firsts;
@@ -36,11 +36,15 @@ where
 
     type Elem = Firsts<R::Item>;
 
+    type Weight = R::Weight;
+
     ghost ring = { λ kit. let by = kit.ranked in
         first_k (R.order by) kit.k (R.unit by) (R.joint by) (R.reach by) };
 
     ghost of_mark = { λ kit mark weight. let by = kit.ranked in
         first_of (R.order by) kit.k (R.of_mark by mark weight ∷ []) };
+
+    ghost weight_reach = { λ kit. R.weight_reach kit.ranked };
 
     ghost laws = { λ kit. let by = kit.ranked in
         first_k-IsSemiring (R.order by) (R.ranking by) (R.unit by) (R.joint by) (R.keeps by)
@@ -50,7 +54,7 @@ where
         one_of-is_sound (R.order by) (R.ranking by) kit.k (R.of_mark by mark weight) };
 
     ghost mark_reach = { λ kit mark weight. let by = kit.ranked in
-        one_of-reach (R.order by) (R.reach by) kit.k (R.of_mark by mark weight) (unsigned_abs weight)
+        one_of-reach (R.order by) (R.reach by) kit.k (R.of_mark by mark weight) (R.weight_reach by weight)
         (R.mark_reach by mark weight) };
 
     fn zero(&self, alloc: Global) -> Result<Firsts<R::Item>, AllocError> {
@@ -65,7 +69,7 @@ where
         &self,
         alloc: Global,
         mark: Mark,
-        weight: i64,
+        weight: R::Weight,
     ) -> Result<Firsts<R::Item>, AllocError> {
         single(alloc, self.ranked.of_mark(alloc, mark, weight)?)
     }

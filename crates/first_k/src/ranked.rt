@@ -1,5 +1,5 @@
 //! Candidates in an order. Rankings, and products that keep them, are witness_order's specs/Rankings.antt.
-ghost use Rattle.std.specs.Prelude.{◌≡◌, ℕ, ℤ, ◌+◌, ◌≤◌, IfOk, unsigned_abs};
+ghost use Rattle.std.specs.Prelude.{◌≡◌, ℕ, ◌+◌, ◌≤◌, IfOk};
 ghost use Rattle.std.specs.declared.cmp.Ordering.{Ordering};
 ghost use Rattle.shape_gen.specs.declared.mark.Mark.{Mark};
 ghost use Rattle.semiring_kit.specs.Semiring.{weight_bound};
@@ -15,6 +15,9 @@ use std::cmp::Ordering;
 pub trait Ranked: Drop {
     type Item: Drop;
 
+    /// What a mark weighs.
+    type Weight: Copy;
+
     ghost order: { Self → Self.Item → Self.Item → Ordering };
 
     ghost unit: { Self → Self.Item };
@@ -23,15 +26,22 @@ pub trait Ranked: Drop {
 
     ghost reach: { Self → Self.Item → ℕ };
 
-    ghost of_mark: { Self → Mark → ℤ → Self.Item };
+    ghost of_mark: { Self → Mark → Self.Weight → Self.Item };
+
+    ghost weight_reach: { Self → Self.Weight → ℕ };
 
     /// The candidate that changes none that it is joined with.
     fn unit(&self, alloc: Global) -> Result<Self::Item, AllocError>
         ensures { IfOk result (λ item. item ≡ unit self.now) };
 
     /// The candidate of one mark of this weight.
-    fn of_mark(&self, alloc: Global, mark: Mark, weight: i64) -> Result<Self::Item, AllocError>
-        requires { unsigned_abs weight ≤ weight_bound }
+    fn of_mark(
+        &self,
+        alloc: Global,
+        mark: Mark,
+        weight: Self::Weight,
+    ) -> Result<Self::Item, AllocError>
+        requires { weight_reach self.now weight ≤ weight_bound }
         ensures { IfOk result (λ item. item ≡ of_mark self.now mark weight) };
 
     /// The same candidate once more.
@@ -65,6 +75,6 @@ pub trait Ranked: Drop {
 
     ghost adds_reach: { (s : Self) → AddsReach (reach s) (unit s) (joint s) };
 
-    ghost mark_reach: { (s : Self) (mark : Mark) (weight : ℤ)
-        → reach s (of_mark s mark weight) ≤ unsigned_abs weight };
+    ghost mark_reach: { (s : Self) (mark : Mark) (weight : Self.Weight)
+        → reach s (of_mark s mark weight) ≤ weight_reach s weight };
 }

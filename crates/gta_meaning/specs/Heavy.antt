@@ -1,23 +1,27 @@
--- The first row at which the weights of the aggregate's measure could add up past the bound.
-use Rattle.std.specs.Prelude.{ℕ, ◌+◌, max, nat_abs, Bool, nat_lt, List, map, sum}
-use Rattle.std.specs.Prelude.{Option, Some, None}
+-- The first row at which the weights of the aggregate's measures could add up past the bound.
+use Rattle.std.specs.Prelude.{ℕ, ◌+◌, max, nat_abs, Bool, nat_lt, List, [], ◌∷◌, map, sum, Option}
 use Rattle.std.specs.List.{find, fold, range_with_len}
 use Rattle.gta_text.specs.declared.numbers.TheConstants.{NUMBER_BOUND}
 use Rattle.gta_checked.specs.PlainRows.{PlainRows}
 use Rattle.gta_checked.specs.declared.resolved.Goal.{Goal}
 use Rattle.gta_checked.specs.declared.resolved.Goal.TheVariants.{Count, Any, Max, Min, Best, Ranked}
+use Rattle.gta_checked.specs.declared.resolved.Rank.{Rank}
 use Rattle.gta_checked.specs.Plain.{PlainChecked}
 use Rattle.gta_meaning.specs.InRange.{label_count}
 use Rattle.gta_meaning.specs.Values.{value}
 
--- the measure of an aggregate, where it has one; several totals aren't weighed
-abbrev pub goal_measure : Goal → Option ℕ
-goal_measure Count = None
-goal_measure Any = None
-goal_measure (Max measure) = Some measure
-goal_measure (Min measure) = Some measure
-goal_measure (Best k greatest measure) = Some measure
-goal_measure (Ranked k keys) = None
+-- the measures of ranks
+abbrev pub rank_measures : List Rank → List ℕ
+rank_measures ranks = map (λ rank. rank.measure) ranks
+
+-- the measures of an aggregate
+abbrev pub goal_measures : Goal → List ℕ
+goal_measures Count = []
+goal_measures Any = []
+goal_measures (Max measure) = measure ∷ []
+goal_measures (Min measure) = measure ∷ []
+goal_measures (Best k greatest measure) = measure ∷ []
+goal_measures (Ranked k ranks) = rank_measures ranks
 
 -- the absolute values of a measure at a row, label by label
 abbrev pub sizes : PlainChecked → PlainRows → ℕ → ℕ → List ℕ
@@ -26,27 +30,27 @@ sizes checked rows measure row =
     (range_with_len 0 (label_count checked))
 
 -- the greatest of them
-abbrev pub row_weight : PlainChecked → PlainRows → ℕ → ℕ → ℕ
-row_weight checked rows measure row = fold max 0 (sizes checked rows measure row)
+abbrev pub measure_weight : PlainChecked → PlainRows → ℕ → ℕ → ℕ
+measure_weight checked rows row measure = fold max 0 (sizes checked rows measure row)
+
+-- the greatest of any of the measures
+abbrev pub row_weight : PlainChecked → PlainRows → List ℕ → ℕ → ℕ
+row_weight checked rows measures row = fold max 0 (map (measure_weight checked rows row) measures)
 
 -- the weights of the first rows, added up
-abbrev pub weight_of_rows : PlainChecked → PlainRows → ℕ → ℕ → ℕ
-weight_of_rows checked rows measure count =
-    sum (map (row_weight checked rows measure) (range_with_len 0 count))
+abbrev pub weight_of_rows : PlainChecked → PlainRows → List ℕ → ℕ → ℕ
+weight_of_rows checked rows measures count =
+    sum (map (row_weight checked rows measures) (range_with_len 0 count))
 
 -- the rows up to this one and with it weigh more than the bound
-abbrev pub is_heavy : PlainChecked → PlainRows → ℕ → ℕ → Bool
-is_heavy checked rows measure row =
-    nat_lt NUMBER_BOUND (weight_of_rows checked rows measure (row + 1))
+abbrev pub is_heavy : PlainChecked → PlainRows → List ℕ → ℕ → Bool
+is_heavy checked rows measures row =
+    nat_lt NUMBER_BOUND (weight_of_rows checked rows measures (row + 1))
 
 -- the first such row
-abbrev pub first_past : PlainChecked → PlainRows → ℕ → Option ℕ
-first_past checked rows measure = find (is_heavy checked rows measure) (range_with_len 0 rows.count)
+abbrev pub first_past : PlainChecked → PlainRows → List ℕ → Option ℕ
+first_past checked rows measures = find (is_heavy checked rows measures) (range_with_len 0 rows.count)
 
-abbrev pub first_past_of : PlainChecked → PlainRows → Option ℕ → Option ℕ
-first_past_of checked rows None = None
-first_past_of checked rows (Some measure) = first_past checked rows measure
-
--- the first heavy row of the aggregate's measure; none where it has no measure
+-- the first heavy row of the aggregate's measures; rows weigh nothing where it has none
 abbrev pub first_heavy : PlainChecked → PlainRows → Option ℕ
-first_heavy checked rows = first_past_of checked rows (goal_measure checked.goal)
+first_heavy checked rows = first_past checked rows (goal_measures checked.goal)

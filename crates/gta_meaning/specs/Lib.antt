@@ -7,4 +7,5 @@ pub mod Elements
 pub mod Kept
 pub mod Listed
 pub mod Answers
+pub mod Ranks
 pub mod Heavy

@@ -1,8 +1,8 @@
 //! The plain meaning of a checked specification and its table, by lists and exact whole numbers.
 //! specs/Values.antt has values and totals, specs/Tests.antt what passes, specs/Folds.antt the product of a fold,
 //! specs/Runs.antt the state that a run reaches, specs/Elements.antt what sets of accepted elements and states hold,
-//! specs/Kept.antt the candidates that pass, specs/Answers.antt what is asked of them, specs/Listed.antt which lists
-//! are too long, and specs/Heavy.antt the first row past the bound of weights.
+//! specs/Kept.antt the candidates that pass, specs/Answers.antt and specs/Ranks.antt what is asked of them,
+//! specs/Listed.antt which lists are too long, and specs/Heavy.antt the first row past the bound of weights.
 #![tactic(auto)]
 
 mod candidate;
@@ -21,7 +21,7 @@ mod verdicts;
 pub use candidate::{Candidate, label_count};
 pub use elements::{ElementSet, accepted_elements};
 pub use folds::picked;
-pub use heavy::{first_heavy, goal_measure};
+pub use heavy::first_heavy;
 pub use listing::{ListFault, list_kept};
 pub use passing::passes;
 pub use picks::first_pick;

@@ -1,13 +1,14 @@
 -- The bytes of answers and of refusals.
-use Rattle.std.specs.Prelude.{ℕ, ◌+◌, ◌<◌, ℤ, List, [], ◌∷◌, ◌++◌, length, slice_index_or, codes}
+use Rattle.std.specs.Prelude.{ℕ, ◌+◌, ◌<◌, ℤ, List, [], ◌∷◌, ◌++◌, length, slice_index_or, codes, nat_lt}
 use Rattle.std.specs.Prelude.{Bool, true, false, ◌==◌, if◌then◌else◌, Option, Some, None}
 use Rattle.std.specs.Fmt.{decimal, signed_decimal}
 use Rattle.std.specs.List.{All}
 use Rattle.shape_gen.specs.declared.mark.Mark.{Mark}
 use Rattle.best_k.specs.declared.entry.Entry.{Entry}
+use Rattle.semiring_kit.specs.declared.weight.Lex.{Lex}
 use Rattle.report_text.specs.declared.answer.TheConstants.{COUNT_CAP}
 use Rattle.report_text.specs.declared.answer.Answer.{Answer}
-use Rattle.report_text.specs.declared.answer.Answer.TheVariants.{Count, Any, Total, Best}
+use Rattle.report_text.specs.declared.answer.Answer.TheVariants.{Count, Any, Total, Best, Totals, RankedBest}
 use Rattle.report_text.specs.declared.refusal.Refusal.{Refusal}
 use Rattle.report_text.specs.declared.refusal.Refusal.TheVariants.{Byte, Version, Grammar}
 use Rattle.report_text.specs.declared.refusal.Refusal.TheVariants.{Number, NoRows}
@@ -18,7 +19,7 @@ use Rattle.report_text.specs.declared.refusal.Refusal.TheVariants.{NotSquare, Au
 use Rattle.report_text.specs.declared.refusal.Refusal.TheVariants.{ColumnMissing, ColumnTwice}
 use Rattle.report_text.specs.declared.refusal.Refusal.TheVariants.{Length, Field, TooMany}
 use Rattle.report_text.specs.declared.refusal.Refusal.TheVariants.{Negative, Heavy, Keys}
-use Rattle.report_text.specs.declared.refusal.Refusal.TheVariants.{Size, ListSize, Input, Unbuilt}
+use Rattle.report_text.specs.declared.refusal.Refusal.TheVariants.{Size, ListSize, Input}
 
 -- what follows a count: at the cap it stands for more, too
 abbrev pub cap_text : ℕ → List ℕ
@@ -44,22 +45,31 @@ abbrev pub candidate_text : List (List ℕ) → List Mark → List ℕ
 candidate_text labels [] = codes "-"
 candidate_text labels (mark ∷ marks) = mark_text labels mark ++ more_marks_text labels marks
 
--- the line of an entry at its place
-abbrev pub entry_text : List (List ℕ) → ℕ → Entry → List ℕ
-entry_text labels place entry =
-    decimal place ++ (codes " " ++ (signed_decimal entry.total ++ (codes " "
-    ++ (candidate_text labels entry.witness ++ codes "\n"))))
+-- two totals, and the third where there are more parts
+
+abbrev pub third_text : ℕ → ℤ → List ℕ
+third_text parts total = if nat_lt 2 parts then codes " " ++ signed_decimal total else []
+
+abbrev pub totals_text : ℕ → Lex → List ℕ
+totals_text parts totals =
+    signed_decimal totals.first ++ (codes " " ++ (signed_decimal totals.second ++ third_text parts totals.third))
+
+-- the line of a candidate at its place, behind the text of its total
+abbrev pub entry_text : List (List ℕ) → ℕ → List ℕ → List Mark → List ℕ
+entry_text labels place total marks =
+    decimal place ++ (codes " " ++ (total ++ (codes " " ++ (candidate_text labels marks ++ codes "\n"))))
 
 -- the lines of entries, from a place on
-abbrev pub entries_text : List (List ℕ) → ℕ → List Entry → List ℕ
-entries_text labels place [] = []
-entries_text labels place (entry ∷ entries) =
-    entry_text labels place entry ++ entries_text labels (place + 1) entries
+abbrev pub entries_text : {W : Type 0} → (W → List ℕ) → List (List ℕ) → ℕ → List (Entry W) → List ℕ
+entries_text total_text labels place [] = []
+entries_text total_text labels place (entry ∷ entries) =
+    entry_text labels place (total_text entry.total) entry.witness
+    ++ entries_text total_text labels (place + 1) entries
 
 -- the number of entries, and the entries from place 1 on
-abbrev pub best_text : List (List ℕ) → List Entry → List ℕ
-best_text labels entries =
-    codes "answer " ++ (decimal (length entries) ++ (codes "\n" ++ entries_text labels 1 entries))
+abbrev pub best_text : {W : Type 0} → (W → List ℕ) → List (List ℕ) → List (Entry W) → List ℕ
+best_text total_text labels entries =
+    codes "answer " ++ (decimal (length entries) ++ (codes "\n" ++ entries_text total_text labels 1 entries))
 
 -- the report of an answer, with the names of the labels, or none where there are no labels
 abbrev pub report_text : Answer → List (List ℕ) → List ℕ
@@ -68,7 +78,10 @@ report_text (Any true) labels = codes "answer yes\n"
 report_text (Any false) labels = codes "answer no\n"
 report_text (Total (Some total)) labels = codes "answer " ++ (signed_decimal total ++ codes "\n")
 report_text (Total None) labels = codes "answer none\n"
-report_text (Best entries) labels = best_text labels entries
+report_text (Best entries) labels = best_text signed_decimal labels entries
+report_text (Totals parts (Some totals)) labels = codes "answer " ++ (totals_text parts totals ++ codes "\n")
+report_text (Totals parts None) labels = codes "answer none\n"
+report_text (RankedBest parts entries) labels = best_text (totals_text parts) labels entries
 
 -- a candidate on a line of its own
 abbrev pub candidate_line : List (List ℕ) → List Mark → List ℕ
@@ -94,6 +107,8 @@ IsLabelled (Count n) labels = Unit {0}
 IsLabelled (Any found) labels = Unit {0}
 IsLabelled (Total total) labels = Unit {0}
 IsLabelled (Best entries) labels = All (λ entry. AreLabelled labels entry.witness) entries
+IsLabelled (Totals parts totals) labels = Unit {0}
+IsLabelled (RankedBest parts entries) labels = All (λ entry. AreLabelled labels entry.witness) entries
 
 -- the line of a refusal, by its number and its text
 unfoldable pub refused : ℕ → List ℕ → List ℕ
@@ -168,7 +183,6 @@ fault_text (NotAssociative table a b c) =
 fault_text (NotSquare table element) =
     refused 28 (of_table table (codes ": not square at " ++ element))
 fault_text (Automaton name letter) = refused 29 (of_automaton name (automaton_text letter))
-fault_text Unbuilt = refused 1 (codes "not built yet")
 fault_text NoHeader = refused 31 (codes "no header")
 fault_text (ColumnMissing column) = refused 32 (of_column column (codes " missing"))
 fault_text (ColumnTwice column) = refused 33 (of_column column (codes " twice"))

@@ -35,7 +35,6 @@ pub fn fault_line(alloc: Global, refusal: &Refusal) -> Result<Vec<u8>, AllocErro
         Refusal::NotAssociative { table, a, b, c } => triple_line(alloc, table, a, b, c),
         Refusal::NotSquare { table, element } => square_line(alloc, table, element),
         Refusal::Automaton { name, letter } => automaton_line(alloc, name, letter),
-        Refusal::Unbuilt => refused(alloc, 1, b"not built yet"),
         Refusal::NoHeader => refused(alloc, 31, b"no header"),
         Refusal::ColumnMissing { column } => column_line(alloc, 32, column, b" missing"),
         Refusal::ColumnTwice { column } => column_line(alloc, 33, column, b" twice"),

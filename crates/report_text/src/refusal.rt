@@ -77,8 +77,6 @@ pub enum Refusal {
         name: Name,
         letter: Option<Name>,
     },
-    /// Several totals are asked for, one after the other, which isn't built yet.
-    Unbuilt,
     /// The table has no record.
     NoHeader,
     /// No field of the header is that of the column.

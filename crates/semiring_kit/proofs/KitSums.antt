@@ -2,7 +2,11 @@
 use Rattle.std.proofs.Common.{◌≡◌, ℕ, ℤ, pos, ◌+ℤ◌, ◌≤ℤ◌, unsigned_abs, int_lt, Bool, true, false, cond, ◌⊎◌, List}
 use Rattle.std.proofs.Common.{[], ◌∷◌, map, Option, Some, None, inl, inr, refl, sym, subst, ap, ◌∙◌, arith}
 use Rattle.std.specs.Int.{int_max, int_min}
+use Rattle.std.proofs.lemmas.Cmp.{tied_itself, upto}
 use Rattle.std.proofs.lemmas.Int.{ints, clamps}
+use Rattle.std.specs.Ordering.{is_gt}
+use Rattle.witness_order.proofs.Placed.{by_test, not_after_back}
+use Rattle.witness_order.specs.Rankings.{IsRanking}
 use Rattle.monoid_kit.specs.Items.{IsIn}
 use Rattle.monoid_kit.specs.Product.{product_by}
 use Rattle.semiring_kit.specs.Total.{total}
@@ -11,6 +15,12 @@ use Rattle.semiring_kit.specs.Count.{count}
 use Rattle.semiring_kit.specs.Truth.{truth}
 use Rattle.semiring_kit.specs.Aggregates.{total_weight, cut_length, has_item, chosen_of, IsFurthest}
 use Rattle.semiring_kit.specs.Aggregates.{SumCounts, SumTells, SumIsGreatest, SumIsLeast, GreatestIsUpper, LeastIsLower}
+use Rattle.semiring_kit.specs.Aggregates.{total_by, SumIsGreatestLex, GreatestLexIsUpper}
+use Rattle.semiring_kit.specs.Chosen.{greater_by}
+use Rattle.semiring_kit.specs.ChosenLaws.{greater-left, greater-right}
+use Rattle.semiring_kit.specs.declared.weight.Lex.{Lex}
+use Rattle.semiring_kit.specs.Lex.{lex_order, lex_plus, lex_reach, no_lex, lexes}
+use Rattle.semiring_kit.specs.LexLaws.{lexes-IsWeight}
 
 module _ {X : Type 0} where
   -- where each item counts once, their number
@@ -74,6 +84,11 @@ sum_is_least weight cs =
     total-chosen (pos 0) ◌+ℤ◌ int_min unsigned_abs _ (total_weight weight) cs
     (λ c c_in. product-together (pos 0) ◌+ℤ◌ int_min unsigned_abs _ weight c (λ m m_in. refl))
 
+pub sum_is_greatest_lex : SumIsGreatestLex
+sum_is_greatest_lex weight cs =
+    total-chosen no_lex lex_plus (greater_by lex_order) lex_reach _ (total_by lexes weight) cs
+    (λ c c_in. product-together no_lex lex_plus (greater_by lex_order) lex_reach _ weight c (λ m m_in. refl))
+
 -- what is chosen out of a list
 
 module _ {W : Type 0} (choose : W → W → W) (up_to : W → W → Type 0)
@@ -125,3 +140,37 @@ least_is_lower weights =
     chosen_of-IsFurthest int_min (λ u w. w ≤ℤ u) (λ a. omega (arith, ints)) (λ a b c first then. omega (arith, ints))
     lesser-one_of
     (λ a b. omega (arith, ints, clamps)) (λ a b. omega (arith, ints, clamps)) weights
+
+-- by an order
+
+lex_ranking : IsRanking lex_order
+lex_ranking = lexes-IsWeight.ranking
+
+lex-left : (a b : Lex) → is_gt (lex_order a b) ≡ true → greater_by lex_order a b ≡ a
+lex-left = greater-left lexes lexes-IsWeight
+
+lex-right : (a b : Lex) → is_gt (lex_order a b) ≡ false → greater_by lex_order a b ≡ b
+lex-right = greater-right lexes lexes-IsWeight
+
+lex-one_of : (a b : Lex) → (greater_by lex_order a b ≡ a) ⊎ (greater_by lex_order a b ≡ b)
+lex-one_of a b = by_test (is_gt (lex_order a b)) (λ after. inl (lex-left a b after)) (λ up. inr (lex-right a b up))
+
+lex-level : (a : Lex) → is_gt (lex_order a a) ≡ false
+lex-level a = ap is_gt (tied_itself lex_ranking.total a)
+
+lex-left_up : (a b : Lex) → is_gt (lex_order a (greater_by lex_order a b)) ≡ false
+lex-left_up a b =
+    by_test (is_gt (lex_order a b))
+    (λ after. ap (λ c. is_gt (lex_order a c)) (lex-left a b after) ∙ lex-level a)
+    (λ up. ap (λ c. is_gt (lex_order a c)) (lex-right a b up) ∙ up)
+
+lex-right_up : (a b : Lex) → is_gt (lex_order b (greater_by lex_order a b)) ≡ false
+lex-right_up a b =
+    by_test (is_gt (lex_order a b))
+    (λ after. ap (λ c. is_gt (lex_order b c)) (lex-left a b after) ∙ not_after_back lex_order lex_ranking a b after)
+    (λ up. ap (λ c. is_gt (lex_order b c)) (lex-right a b up) ∙ lex-level b)
+
+pub greatest_lex_is_upper : GreatestLexIsUpper
+greatest_lex_is_upper weights =
+    chosen_of-IsFurthest (greater_by lex_order) (λ u w. is_gt (lex_order u w) ≡ false)
+    lex-level (upto lex_ranking.total) lex-one_of lex-left_up lex-right_up weights

@@ -1,27 +1,35 @@
 -- What a semiring adds up over a list of candidates, and the answers that these sums are.
-use Rattle.std.specs.Prelude.{◌≡◌, ℕ, ℤ, pos, ◌+ℤ◌, ◌≤ℤ◌, Bool, true, false, min, List, [], ◌∷◌, length, map, Option}
+use Rattle.std.specs.Prelude.{◌≡◌, ℕ, ℤ, ◌≤ℤ◌, Bool, true, false, min, List, [], ◌∷◌, length, map, Option}
 use Rattle.std.specs.Prelude.{Some, None}
 use Rattle.std.specs.Int.{int_max, int_min}
+use Rattle.std.specs.Ordering.{is_gt}
 use Rattle.monoid_kit.specs.Items.{IsIn, AllElements}
 use Rattle.monoid_kit.specs.Product.{product_by}
 use Rattle.shape_gen.specs.declared.mark.Mark.{Mark}
 use Rattle.semiring_kit.specs.Semiring.{SemiringOn}
 use Rattle.semiring_kit.specs.Total.{total}
-use Rattle.semiring_kit.specs.Chosen.{chosen}
+use Rattle.semiring_kit.specs.Chosen.{chosen, greater_by}
 use Rattle.semiring_kit.specs.Count.{count_cap, count, count_of_mark}
 use Rattle.semiring_kit.specs.Truth.{truth, truth_of_mark}
 use Rattle.semiring_kit.specs.MaxPlus.{max_plus}
 use Rattle.semiring_kit.specs.MinPlus.{min_plus}
+use Rattle.semiring_kit.specs.declared.weight.Lex.{Lex}
+use Rattle.semiring_kit.specs.Lex.{lex_order, lexes}
+use Rattle.semiring_kit.specs.RankPlus.{rank_plus}
+use Rattle.semiring_kit.specs.Weight.{WeightsOn, numbers}
 
 -- the sum over candidates of the products of their marks' elements
-abbrev pub sum_over : {E : Type 0} → SemiringOn E → (Mark → ℤ → E) → (Mark → ℤ)
+abbrev pub sum_over : {E W : Type 0} → SemiringOn E → (Mark → W → E) → (Mark → W)
     → List (List Mark) → E
 sum_over r of_mark weight candidates =
     total r (λ c. product_by r.one r.mul (λ m. of_mark m (weight m)) c) candidates
 
 -- the weights of a candidate's marks, added up
+abbrev pub total_by : {W : Type 0} → WeightsOn W → (Mark → W) → List Mark → W
+total_by weights weight c = product_by weights.nothing weights.plus weight c
+
 abbrev pub total_weight : (Mark → ℤ) → List Mark → ℤ
-total_weight weight c = product_by (pos 0) ◌+ℤ◌ weight c
+total_weight weight c = total_by numbers weight c
 
 -- the number of items, cut at the greatest count
 abbrev pub cut_length : {X : Type 0} → List X → ℕ
@@ -44,6 +52,10 @@ greatest weights = chosen_of int_max weights
 -- the least of a list, or none where it is empty
 abbrev pub least : List ℤ → Option ℤ
 least weights = chosen_of int_min weights
+
+-- the greatest of a list of three numbers each, or none where it is empty
+abbrev pub greatest_lex : List Lex → Option Lex
+greatest_lex weights = chosen_of (greater_by lex_order) weights
 
 -- one of the list, up to which all of them are; or none, where the list is empty
 abbrev pub IsFurthest : {W : Type 0} → (W → W → Type 0) → List W → Option W → Type 0
@@ -68,6 +80,10 @@ abbrev pub SumIsLeast : Type 0
 SumIsLeast = (weight : Mark → ℤ) (cs : List (List Mark))
     → sum_over min_plus (λ mark weight. Some weight) weight cs ≡ least (map (total_weight weight) cs)
 
+abbrev pub SumIsGreatestLex : Type 0
+SumIsGreatestLex = (weight : Mark → Lex) (cs : List (List Mark))
+    → sum_over rank_plus (λ mark weight. Some weight) weight cs ≡ greatest_lex (map (total_by lexes weight) cs)
+
 -- greatest and least are what they are called
 
 abbrev pub GreatestIsUpper : Type 0
@@ -75,3 +91,7 @@ GreatestIsUpper = (weights : List ℤ) → IsFurthest (λ u w. u ≤ℤ w) weigh
 
 abbrev pub LeastIsLower : Type 0
 LeastIsLower = (weights : List ℤ) → IsFurthest (λ u w. w ≤ℤ u) weights (least weights)
+
+abbrev pub GreatestLexIsUpper : Type 0
+GreatestLexIsUpper = (weights : List Lex)
+    → IsFurthest (λ u w. is_gt (lex_order u w) ≡ false) weights (greatest_lex weights)

@@ -1,5 +1,7 @@
 -- Weights, with none besides: the sum of two is the one that is chosen, and their product adds them.
-use Rattle.std.specs.Prelude.{◌≡◌, ℕ, ◌+◌, ◌≤◌, max, Option, Some, None}
+use Rattle.std.specs.Prelude.{◌≡◌, ℕ, ◌+◌, ◌≤◌, max, cond, Option, Some, None}
+use Rattle.std.specs.Ordering.{is_gt}
+use Rattle.std.specs.declared.cmp.Ordering.{Ordering}
 use Rattle.semiring_kit.specs.Semiring.{SemiringOn}
 
 -- the chosen one of two weights, or the one that there is
@@ -13,6 +15,10 @@ abbrev pub together : {W : Type 0} → (W → W → W) → Option W → Option W
 together plus None b = None
 together plus (Some x) None = None
 together plus (Some x) (Some y) = Some (plus x y)
+
+-- the greater of two weights by an order
+abbrev pub greater_by : {W : Type 0} → (W → W → Ordering) → W → W → W
+greater_by order a b = cond (is_gt (order a b)) a b
 
 -- the reach of the weight, or 0 where there is none
 abbrev pub reach_of : {W : Type 0} → (W → ℕ) → Option W → ℕ

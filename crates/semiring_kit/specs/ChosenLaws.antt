@@ -1,8 +1,12 @@
--- The laws of chosen weights, over any choice that addition leaves as it is.
-use Rattle.std.specs.Prelude.{◌≡◌, ℕ, ◌+◌, ◌≤◌, max, Option, Some, None}
-use Rattle.std.proofs.Common.{arith, refl, ap, ◌∙◌}
+-- The laws of chosen weights, over any choice that addition leaves as it is. The greater weight is one.
+use Rattle.std.specs.Prelude.{◌≡◌, ℕ, ◌+◌, ◌≤◌, max, cond, true, false, Option, Some, None}
+use Rattle.std.specs.Ordering.{is_gt}
+use Rattle.std.proofs.Common.{arith, refl, sym, ap, ◌∙◌}
+use Rattle.std.proofs.lemmas.Cmp.{upto}
+use Rattle.witness_order.proofs.Placed.{by_test, not_after_back, same_from_both, after_later}
 use Rattle.semiring_kit.specs.Semiring.{IsSemiring}
-use Rattle.semiring_kit.specs.Chosen.{chosen, together, reach_of, chosen_plus, IsChoice}
+use Rattle.semiring_kit.specs.Chosen.{chosen, together, reach_of, chosen_plus, greater_by, IsChoice}
+use Rattle.semiring_kit.specs.Weight.{WeightsOn, IsWeight}
 
 module _ {W : Type 0} {nought : W} {plus choose : W → W → W} {reach : W → ℕ}
     (choice : IsChoice nought plus choose reach) where
@@ -90,4 +94,84 @@ module _ {W : Type 0} {nought : W} {plus choose : W → W → W} {reach : W → 
     one_reach = choice.nought_reach;
     add_reach = λ a b a_in b_in. chosen-reach a b;
     mul_reach = λ a b a_in b_in. together-reach a b;
+  }
+
+-- the greater of two weights
+
+module _ {W : Type 0} (w : WeightsOn W) (laws : IsWeight w) where
+  abbrev greater : W → W → W
+  greater = greater_by w.order
+
+  pub greater-left : (a b : W) → is_gt (w.order a b) ≡ true → greater a b ≡ a
+  greater-left a b after = ap (λ t. cond t a b) after
+
+  pub greater-right : (a b : W) → is_gt (w.order a b) ≡ false → greater a b ≡ b
+  greater-right a b not_after = ap (λ t. cond t a b) not_after
+
+  greater-commutative : (a b : W) → greater a b ≡ greater b a
+  greater-commutative a b =
+      by_test (is_gt (w.order a b))
+      (λ after.
+      greater-left a b after
+      ∙ sym (greater-right b a (not_after_back w.order laws.ranking a b after)))
+      (λ not_after.
+      greater-right a b not_after
+      ∙ by_test (is_gt (w.order b a))
+      (λ after. sym (greater-left b a after))
+      (λ level. same_from_both w.order laws.ranking b a level not_after ∙ sym (greater-right b a level)))
+
+  greater-associative : (a b c : W) → greater (greater a b) c ≡ greater a (greater b c)
+  greater-associative a b c =
+      by_test (is_gt (w.order a b))
+      (λ a_after_b.
+      ap (λ d. greater d c) (greater-left a b a_after_b)
+      ∙ by_test (is_gt (w.order b c))
+      (λ b_after_c.
+      greater-left a c (after_chain a b c a_after_b b_after_c)
+      ∙ sym (greater-left a b a_after_b)
+      ∙ sym (ap (greater a) (greater-left b c b_after_c)))
+      (λ c_up. sym (ap (greater a) (greater-right b c c_up))))
+      (λ b_up.
+      ap (λ d. greater d c) (greater-right a b b_up)
+      ∙ by_test (is_gt (w.order b c))
+      (λ b_after_c.
+      greater-left b c b_after_c
+      ∙ sym (greater-right a b b_up)
+      ∙ sym (ap (greater a) (greater-left b c b_after_c)))
+      (λ c_up.
+      greater-right b c c_up
+      ∙ sym (greater-right a c (upto laws.ranking.total a b c b_up c_up))
+      ∙ sym (ap (greater a) (greater-right b c c_up))))
+    where
+      after_chain : (x y z : W) → is_gt (w.order x y) ≡ true → is_gt (w.order y z) ≡ true → is_gt (w.order x z) ≡ true
+      after_chain x y z x_after y_after =
+          after_later w.order laws.ranking y x z (not_after_back w.order laws.ranking x y x_after) y_after
+
+  plus-greater : (a b c : W) → w.plus a (greater b c) ≡ greater (w.plus a b) (w.plus a c)
+  plus-greater a b c =
+      by_test (is_gt (w.order b c))
+      (λ after.
+      ap (w.plus a) (greater-left b c after)
+      ∙ sym (greater-left (w.plus a b) (w.plus a c) (ap is_gt (laws.kept.keeps_left a b c) ∙ after)))
+      (λ not_after.
+      ap (w.plus a) (greater-right b c not_after)
+      ∙ sym (greater-right (w.plus a b) (w.plus a c) (ap is_gt (laws.kept.keeps_left a b c) ∙ not_after)))
+
+  greater-reach : (a b : W) → w.reach (greater a b) ≤ max (w.reach a) (w.reach b)
+  greater-reach a b =
+      by_test (is_gt (w.order a b))
+      (λ after. let is = ap w.reach (greater-left a b after) in omega (arith, is))
+      (λ not_after. let is = ap w.reach (greater-right a b not_after) in omega (arith, is))
+
+  pub greater_by-IsChoice : IsChoice w.nothing w.plus (greater_by w.order) w.reach
+  greater_by-IsChoice = record {
+    choose_associative = greater-associative;
+    choose_commutative = greater-commutative;
+    plus_associative = laws.kept.associative;
+    plus_commutative = laws.commutative;
+    plus_identity = laws.kept.left_identity;
+    distributes = plus-greater;
+    nought_reach = laws.nothing_reach;
+    choose_reach = greater-reach;
+    plus_reach = laws.plus_reach;
   }

@@ -1,10 +1,14 @@
 pub mod Semiring
 pub mod Total
+pub mod Weight
+pub mod Lex
+pub mod LexLaws
 pub mod Chosen
 pub mod ChosenLaws
 pub mod MaxPlus
 pub mod MinPlus
 pub mod WeightLaws
+pub mod RankPlus
 pub mod Count
 pub mod CountLaws
 pub mod Truth

@@ -15,15 +15,20 @@ use step_count::Steps;
 pub struct Count;
 
 impl Semiring for Count {
+    ghost use Rattle.std.specs.Prelude.{unsigned_abs};
     ghost use Rattle.std.proofs.Common.{arith};
     ghost use Rattle.semiring_kit.specs.Count.{count, count_of_mark};
     ghost use Rattle.semiring_kit.specs.CountLaws.{count-IsSemiring};
 
     type Elem = u64;
 
+    type Weight = i64;
+
     ghost ring = { λ kit. count };
 
     ghost of_mark = { λ kit. count_of_mark };
+
+    ghost weight_reach = { λ kit. unsigned_abs };
 
     ghost laws = { λ kit. count-IsSemiring };
 

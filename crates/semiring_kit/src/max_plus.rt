@@ -16,16 +16,20 @@ use step_count::Steps;
 pub struct MaxPlus;
 
 impl Semiring for MaxPlus {
-    ghost use Rattle.std.specs.Prelude.{Some};
+    ghost use Rattle.std.specs.Prelude.{Some, unsigned_abs};
     ghost use Rattle.std.proofs.Common.{arith};
     ghost use Rattle.semiring_kit.specs.MaxPlus.{max_plus};
     ghost use Rattle.semiring_kit.specs.WeightLaws.{max_plus-IsSemiring};
 
     type Elem = Option<i64>;
 
+    type Weight = i64;
+
     ghost ring = { λ kit. max_plus };
 
     ghost of_mark = { λ kit mark weight. Some weight };
+
+    ghost weight_reach = { λ kit. unsigned_abs };
 
     ghost laws = { λ kit. max_plus-IsSemiring };
 

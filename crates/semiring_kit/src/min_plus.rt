@@ -16,16 +16,20 @@ use step_count::Steps;
 pub struct MinPlus;
 
 impl Semiring for MinPlus {
-    ghost use Rattle.std.specs.Prelude.{Some};
+    ghost use Rattle.std.specs.Prelude.{Some, unsigned_abs};
     ghost use Rattle.std.proofs.Common.{arith};
     ghost use Rattle.semiring_kit.specs.MinPlus.{min_plus};
     ghost use Rattle.semiring_kit.specs.WeightLaws.{min_plus-IsSemiring};
 
     type Elem = Option<i64>;
 
+    type Weight = i64;
+
     ghost ring = { λ kit. min_plus };
 
     ghost of_mark = { λ kit mark weight. Some weight };
+
+    ghost weight_reach = { λ kit. unsigned_abs };
 
     ghost laws = { λ kit. min_plus-IsSemiring };
 

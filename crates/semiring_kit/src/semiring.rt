@@ -1,7 +1,7 @@
 //! Semirings over values that may take memory.
 //! The operations and their laws are in specs/Semiring.antt.
 
-ghost use Rattle.std.specs.Prelude.{◌≡◌, ℕ, ℤ, ◌+◌, ◌≤◌, IfOk, unsigned_abs};
+ghost use Rattle.std.specs.Prelude.{◌≡◌, ℕ, ◌+◌, ◌≤◌, IfOk};
 ghost use Rattle.semiring_kit.specs.Semiring.{SemiringOn, IsSemiring, IsGood, weight_bound};
 ghost use Rattle.shape_gen.specs.declared.mark.Mark.{Mark};
 
@@ -15,9 +15,15 @@ use step_count::Steps;
 pub trait Semiring: Drop {
     type Elem: Send + Sync + Drop;
 
+    /// What a mark weighs.
+    type Weight: Copy;
+
     ghost ring: { Self → SemiringOn Self.Elem };
 
-    ghost of_mark: { Self → Mark → ℤ → Self.Elem };
+    ghost of_mark: { Self → Mark → Self.Weight → Self.Elem };
+
+    // how far a weight reaches: it is good up to the bound
+    ghost weight_reach: { Self → Self.Weight → ℕ };
 
     /// The element that adds nothing.
     fn zero(&self, alloc: Global) -> Result<Self::Elem, AllocError>
@@ -28,8 +34,13 @@ pub trait Semiring: Drop {
         ensures { IfOk result (λ elem. elem ≡ (ring self.now).one) };
 
     /// The element of a mark of this weight.
-    fn of_mark(&self, alloc: Global, mark: Mark, weight: i64) -> Result<Self::Elem, AllocError>
-        requires { unsigned_abs weight ≤ weight_bound }
+    fn of_mark(
+        &self,
+        alloc: Global,
+        mark: Mark,
+        weight: Self::Weight,
+    ) -> Result<Self::Elem, AllocError>
+        requires { weight_reach self.now weight ≤ weight_bound }
         ensures { IfOk result (λ elem. elem ≡ of_mark self.now mark weight) };
 
     /// The same element once more.
@@ -69,9 +80,9 @@ pub trait Semiring: Drop {
 
     ghost laws: { (s : Self) → IsSemiring (ring s) };
 
-    ghost mark_is_sound: { (s : Self) (mark : Mark) (weight : ℤ)
+    ghost mark_is_sound: { (s : Self) (mark : Mark) (weight : Self.Weight)
         → (ring s).is_sound (of_mark s mark weight) };
 
-    ghost mark_reach: { (s : Self) (mark : Mark) (weight : ℤ)
-        → (ring s).reach (of_mark s mark weight) ≤ unsigned_abs weight };
+    ghost mark_reach: { (s : Self) (mark : Mark) (weight : Self.Weight)
+        → (ring s).reach (of_mark s mark weight) ≤ weight_reach s weight };
 }

@@ -15,15 +15,20 @@ use step_count::Steps;
 pub struct Truth;
 
 impl Semiring for Truth {
+    ghost use Rattle.std.specs.Prelude.{unsigned_abs};
     ghost use Rattle.std.proofs.Common.{arith};
     ghost use Rattle.semiring_kit.specs.Truth.{truth, truth_of_mark};
     ghost use Rattle.semiring_kit.specs.TruthLaws.{truth-IsSemiring};
 
     type Elem = bool;
 
+    type Weight = i64;
+
     ghost ring = { λ kit. truth };
 
     ghost of_mark = { λ kit. truth_of_mark };
+
+    ghost weight_reach = { λ kit. unsigned_abs };
 
     ghost laws = { λ kit. truth-IsSemiring };
 

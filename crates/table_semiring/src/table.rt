@@ -116,6 +116,7 @@ impl TableSemiring {
 
 /// No method takes memory, and each answers Ok.
 impl Semiring for TableSemiring {
+    ghost use Rattle.std.specs.Prelude.{unsigned_abs};
     ghost use Rattle.std.proofs.Common.{arith};
     ghost use Rattle.table_semiring.specs.Table.{element_of, product_in, semiring_of, sum_in};
     ghost use Rattle.table_semiring.specs.TableOf.{plain_raw, plain_table};
@@ -123,9 +124,13 @@ impl Semiring for TableSemiring {
 
     type Elem = u32;
 
+    type Weight = i64;
+
     ghost ring = { λ kit. semiring_of (plain_table kit) };
 
     ghost of_mark = { λ kit mark weight. element_of (plain_table kit) weight };
+
+    ghost weight_reach = { λ kit. unsigned_abs };
 
     ghost laws = { λ kit. kit.lawful.semiring };
 

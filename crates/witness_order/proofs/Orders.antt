@@ -13,7 +13,7 @@ use Rattle.std.proofs.lemmas.Int.{ints}
 use Rattle.shape_gen.specs.declared.mark.Mark.{Mark}
 use Rattle.witness_order.specs.Rankings.{IsRanking, KeepsRanking}
 use Rattle.witness_order.specs.Shortlex.{mark_order, shortlex_by, shortlex}
-use Rattle.witness_order.specs.Before.{better, before, no_marks, together}
+use Rattle.witness_order.specs.Before.{better_by, before_by, before, no_marks, together}
 
 -- one comparison after another
 
@@ -135,7 +135,7 @@ flip_args-KeepsRanking kept = record {
   keeps_right = λ x y z. kept.keeps_right y x z;
 }
 
-int_cmp-IsRanking : IsRanking int_cmp
+pub int_cmp-IsRanking : IsRanking int_cmp
 int_cmp-IsRanking = record { total = int_cmp_total; same = int_cmp-same }
 
 int_cmp-left : (a b c : ℤ) → int_cmp (a +ℤ b) (a +ℤ c) ≡ int_cmp b c
@@ -144,7 +144,7 @@ int_cmp-left a b c = grind (arith, ints, nat_tests)
 int_cmp-right : (a b c : ℤ) → int_cmp (a +ℤ c) (b +ℤ c) ≡ int_cmp a b
 int_cmp-right a b c = grind (arith, ints, nat_tests)
 
-int_cmp-KeepsRanking : KeepsRanking int_cmp (pos 0) ◌+ℤ◌
+pub int_cmp-KeepsRanking : KeepsRanking int_cmp (pos 0) ◌+ℤ◌
 int_cmp-KeepsRanking = record {
   left_identity = λ a. omega (arith, ints);
   right_identity = λ a. omega (arith, ints);
@@ -153,13 +153,15 @@ int_cmp-KeepsRanking = record {
   keeps_right = int_cmp-right;
 }
 
-pub better-IsRanking : (greatest : Bool) → IsRanking (better greatest)
-better-IsRanking true = flip_args-IsRanking int_cmp-IsRanking
-better-IsRanking false = int_cmp-IsRanking
+module _ {W : Type 0} {order : W → W → Ordering} where
+  pub better_by-IsRanking : IsRanking order → (greatest : Bool) → IsRanking (better_by order greatest)
+  better_by-IsRanking ranking true = flip_args-IsRanking ranking
+  better_by-IsRanking ranking false = ranking
 
-pub better-KeepsRanking : (greatest : Bool) → KeepsRanking (better greatest) (pos 0) ◌+ℤ◌
-better-KeepsRanking true = flip_args-KeepsRanking int_cmp-KeepsRanking
-better-KeepsRanking false = int_cmp-KeepsRanking
+  pub better_by-KeepsRanking : {nothing : W} {plus : W → W → W} → KeepsRanking order nothing plus
+      → (greatest : Bool) → KeepsRanking (better_by order greatest) nothing plus
+  better_by-KeepsRanking kept true = flip_args-KeepsRanking kept
+  better_by-KeepsRanking kept false = kept
 
 -- entries, of any rankings of totals and of marks
 
@@ -201,11 +203,17 @@ module _ {W M : Type 0} (totals : W → W → Ordering) (marks : M → M → Ord
         ∙ ap (ordering_then (totals c.0 d.0)) (second.keeps_right c.1 d.1 e.1);
   }
 
-pub before-IsRanking : (greatest : Bool) → IsRanking (before greatest)
-before-IsRanking greatest =
-    in_turn-IsRanking (better greatest) shortlex (better-IsRanking greatest) shortlex-IsRanking
+module _ {W : Type 0} {totals : W → W → Ordering} where
+  pub before_by-IsRanking : IsRanking totals → IsRanking (before_by totals)
+  before_by-IsRanking ranking = in_turn-IsRanking totals shortlex ranking shortlex-IsRanking
 
-pub before-KeepsRanking : (greatest : Bool) → KeepsRanking (before greatest) no_marks together
-before-KeepsRanking greatest =
-    in_turn-KeepsRanking (better greatest) shortlex (pos 0) ◌+ℤ◌ [] (λ xs ys. xs ++ ys)
-    (better-KeepsRanking greatest) shortlex-KeepsRanking
+  pub before_by-KeepsRanking : {nothing : W} {plus : W → W → W} → KeepsRanking totals nothing plus
+      → KeepsRanking (before_by totals) (no_marks nothing) (together plus)
+  before_by-KeepsRanking {nothing} {plus} kept =
+      in_turn-KeepsRanking totals shortlex nothing plus [] (λ xs ys. xs ++ ys) kept shortlex-KeepsRanking
+
+pub before-IsRanking : (greatest : Bool) → IsRanking (before greatest)
+before-IsRanking greatest = before_by-IsRanking (better_by-IsRanking int_cmp-IsRanking greatest)
+
+pub before-KeepsRanking : (greatest : Bool) → KeepsRanking (before greatest) (no_marks (pos 0)) (together ◌+ℤ◌)
+before-KeepsRanking greatest = before_by-KeepsRanking (better_by-KeepsRanking int_cmp-KeepsRanking greatest)

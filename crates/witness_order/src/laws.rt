@@ -1,6 +1,6 @@
 //! What the orders are, and what is first by them. The definitions are in specs/Rankings.antt,
 //! specs/Before.antt and specs/Ranked.antt.
-ghost use Rattle.std.specs.Prelude.{◌≡◌, ℕ, ℤ, Bool, List, [], ◌++◌};
+ghost use Rattle.std.specs.Prelude.{◌≡◌, ℕ, ℤ, pos, ◌+ℤ◌, Bool, List, [], ◌++◌};
 ghost use Rattle.shape_gen.specs.declared.mark.Mark.{Mark};
 ghost use Rattle.witness_order.specs.Rankings.{IsRanking, KeepsRanking};
 ghost use Rattle.witness_order.specs.Shortlex.{shortlex};
@@ -13,7 +13,7 @@ pub fn orders_are_rankings()
     ensures shortlex_ranks { IsRanking shortlex }
     ensures shortlex_kept { KeepsRanking shortlex [] (λ xs ys. xs ++ ys) }
     ensures before_ranks { (greatest : Bool) → IsRanking (before greatest) }
-    ensures before_kept { (greatest : Bool) → KeepsRanking (before greatest) no_marks together }
+    ensures before_kept { (greatest : Bool) → KeepsRanking (before greatest) (no_marks (pos 0)) (together ◌+ℤ◌) }
 {}
 
 /// The first k of a list of entries are k of its entries, or all where they are fewer, in order, and none of

@@ -3,7 +3,7 @@ use Rattle.std.specs.List.{fold, range_with_len}
 use Rattle.gta_checked.specs.PlainRows.{plain_rows}
 use Rattle.gta_meaning.specs.declared.values.TheConstants.{VALUE_BOUND}
 use Rattle.gta_meaning.specs.Values.{value}
-use Rattle.gta_meaning.proofs.heavy.row_weight.Given as goal
+use Rattle.gta_meaning.proofs.heavy.measure_weight.Given as goal
 
 abbrev pub invariant-loop-label : goal.invariant-loop-label
 invariant-loop-label l = record {

@@ -3,7 +3,7 @@ use Rattle.std.proofs.lemmas.Int.{ints}
 use Rattle.gta_checked.specs.PlainRows.{plain_rows}
 use Rattle.gta_meaning.specs.Values.{value}
 use Rattle.gta_meaning.proofs.Weights.{greatest-more}
-use Rattle.gta_meaning.proofs.heavy.row_weight.Goals as goal
+use Rattle.gta_meaning.proofs.heavy.measure_weight.Goals as goal
 
 pub loop-label-preserved : goal.loop-label-preserved
 loop-label-preserved c =
