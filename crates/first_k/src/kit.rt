@@ -28,6 +28,7 @@ pub struct FirstK<R: Ranked> {
 impl<R: Ranked> Semiring for FirstK<R>
 where
     R::Item: Send + Sync,
+    R::Weight: Send + Sync,
 {
     ghost use Rattle.std.specs.Prelude.{[], ◌∷◌};
     ghost use Rattle.witness_order.specs.Ranked.{first_of};

@@ -1,5 +1,5 @@
 -- What the letters of a job have at the place of a mark.
-use Rattle.std.proofs.Common.{◌≡◌, ℕ, zero, suc, ◌+◌, ◌*◌, ◌%◌, ◌<◌, ◌≤◌, ℤ}
+use Rattle.std.proofs.Common.{◌≡◌, ℕ, zero, suc, ◌+◌, ◌*◌, ◌%◌, ◌<◌, ◌≤◌}
 use Rattle.std.proofs.Common.{List, [], ◌∷◌, length, get_or, slice_index_or}
 use Rattle.std.proofs.Common.{All, ◌++◌, map, refl, sym, ap, ◌∙◌, subst, arith}
 use Rattle.std.proofs.Math.Nat.{mul-le-mul_right}
@@ -42,7 +42,7 @@ mark_at-place labels m below =
     ap (λ row. mark row (place_of labels m % labels)) (div-mul-add m.row labels m.label below)
     ∙ ap (mark m.row) (mod-mul-add m.row labels m.label below)
 
-module _ {E : Type 0} (of_mark : Mark → ℤ → E) (weight : Mark → ℤ) (keys : List ℕ) (rows labels : ℕ)
+module _ {E W : Type 0} (of_mark : Mark → W → E) (weight : Mark → W) (keys : List ℕ) (rows labels : ℕ)
     (m : Mark) (in_range : IsMarkInRange rows labels m) where
   at-place : get_or (letters_of of_mark weight keys rows labels) (place_of labels m)
       (letter_at of_mark weight keys labels (place_of labels m))
@@ -77,13 +77,13 @@ module _ {E : Type 0} (of_mark : Mark → ℤ → E) (weight : Mark → ℤ) (ke
 
 -- one letter more
 
-module _ {E : Type 0} (of_mark : Mark → ℤ → E) (weight : Mark → ℤ) (keys : List ℕ) (labels place : ℕ) where
-  pub letter-is : (made : ℕ) (value again : ℤ) (elem : E) → made ≡ labels
-      → elem ≡ of_mark (mark_at made place) again → again ≡ value → value ≡ weight (mark_at made place)
+module _ {E W : Type 0} (of_mark : Mark → W → E) (weight : Mark → W) (keys : List ℕ) (labels place : ℕ) where
+  pub letter-is : (made : ℕ) (weighs : W) (elem : E) → made ≡ labels
+      → elem ≡ of_mark (mark_at made place) weighs → weighs ≡ weight (mark_at made place)
       → record { key = slice_index_or keys place 0; elem = elem } ≡ letter_at of_mark weight keys labels place
-  letter-is made value again elem same is back weighs =
+  letter-is made weighs elem same is weighed =
       let here : elem ≡ of_mark (mark_at labels place) (weight (mark_at labels place)) =
-      is ∙ ap (of_mark (mark_at made place)) (back ∙ weighs)
+      is ∙ ap (of_mark (mark_at made place)) weighed
       ∙ ap (λ n. of_mark (mark_at n place) (weight (mark_at n place))) same in
       let with_elem : E → Letter E = λ e. record { key = slice_index_or keys place 0; elem = e } in
       ap with_elem here

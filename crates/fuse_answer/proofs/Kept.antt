@@ -1,5 +1,5 @@
 -- The accepted candidates are those that pass, and their weights are the products of their marks' elements.
-use Rattle.std.proofs.Common.{◌≡◌, ℕ, ℤ, Bool, cond, List, [], ◌∷◌, slice_index_or, inl, inr, refl, ap, ◌∙◌}
+use Rattle.std.proofs.Common.{◌≡◌, ℕ, Bool, cond, List, [], ◌∷◌, slice_index_or, inl, inr, refl, ap, ◌∙◌}
 use Rattle.std.specs.List.{filter}
 use Rattle.monoid_kit.specs.Items.{IsIn}
 use Rattle.monoid_kit.specs.Product.{product_by}
@@ -31,7 +31,7 @@ filter-agree p q (x ∷ xs) agree =
     ap (λ t. cond t (x ∷ filter p xs) (filter p xs)) (agree x (inl refl))
     ∙ ap (λ ys. cond (q x) (x ∷ ys) ys) (filter-agree p q xs (λ y y_in. agree y (inr y_in)))
 
-module _ {E : Type 0} (r : SemiringOn E) (of_mark : Mark → ℤ → E) (weight : Mark → ℤ)
+module _ {E W : Type 0} (r : SemiringOn E) (of_mark : Mark → W → E) (weight : Mark → W)
     (checked : PlainChecked) (rows : PlainRows) (size unit : ℕ) (times : ℕ → ℕ → ℕ)
     (keys : List ℕ) (accept : List Bool) (decide : DecidePassing checked rows size unit times keys accept) where
   abbrev key : List Mark → ℕ

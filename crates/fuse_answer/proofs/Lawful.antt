@@ -1,10 +1,9 @@
 -- The letters of a job are those of a plan: keys are elements, values are good, and all rows together reach no further
 -- than the bound of weights.
-use Rattle.std.proofs.Common.{◌≡◌, ℕ, zero, suc, ◌+◌, ◌*◌, ◌<◌, ◌≤◌, ℤ, unsigned_abs, List}
-use Rattle.std.proofs.Common.{length, slice_index_or, sum_by, ap, arith, div-lt_iff_lt-mul, mod-lt, mul-zero}
+use Rattle.std.proofs.Common.{◌≡◌, ℕ, zero, suc, ◌+◌, ◌*◌, ◌<◌, ◌≤◌, List}
+use Rattle.std.proofs.Common.{None, length, slice_index_or, sum_by, ap, subst, sym, arith, div-lt_iff_lt-mul, mod-lt, mul-zero}
 use Rattle.std.specs.List.{range_with_len}
-use Rattle.std.proofs.lemmas.Int.{ints}
-use Rattle.std.proofs.lemmas.List.FromFn.{get_or-range_with_len, length-range_with_len}
+use Rattle.std.proofs.lemmas.List.FromFn.{get_or-range_with_len, length-map-range_with_len, length-range_with_len}
 use Rattle.std.proofs.lemmas.List.Sums.{sum_by-cons}
 use Rattle.monoid_kit.specs.Items.{IsIn, AllElements}
 use Rattle.monoid_kit.proofs.Items.{AllElements-map, IsIn-get_or, IsIn-place}
@@ -12,9 +11,13 @@ use Rattle.semiring_kit.specs.Semiring.{SemiringOn, IsGood}
 use Rattle.shape_gen.specs.declared.mark.Mark.{Mark}
 use Rattle.shape_gen.specs.Candidates.{mark}
 use Rattle.fuse_core.specs.Letters.{elem_at, greatest_below, row_reach, rows_reach}
-use Rattle.gta_meaning.specs.InRange.{IsMarkInRange}
-use Rattle.fuse_answer.specs.Letters.{letter_at, letters_of, mark_at}
-use Rattle.fuse_answer.proofs.Light.{IsLight}
+use Rattle.fuse_core.specs.declared.letter.Letter.{Letter}
+use Rattle.gta_checked.specs.Plain.{PlainChecked}
+use Rattle.gta_checked.specs.PlainRows.{PlainRows}
+use Rattle.gta_meaning.specs.Heavy.{first_heavy, goal_measures, row_weight}
+use Rattle.gta_meaning.specs.InRange.{IsMarkInRange, label_count}
+use Rattle.fuse_answer.specs.Letters.{AreLawful, letter_at, letters_of, mark_at}
+use Rattle.fuse_answer.proofs.Light.{IsLight, weights-light}
 use Rattle.fuse_answer.proofs.AtPlaces.{elem-read}
 
 in-range : (n place : ℕ) → IsIn place (range_with_len 0 n) → place < n
@@ -41,7 +44,7 @@ greatest-within f bound (suc n) within =
     let here = within n (omega arith) in
     omega (arith, before, here)
 
-module _ {E : Type 0} (of_mark : Mark → ℤ → E) (weight : Mark → ℤ) (keys : List ℕ) (rows labels : ℕ) where
+module _ {E W : Type 0} (of_mark : Mark → W → E) (weight : Mark → W) (keys : List ℕ) (rows labels : ℕ) where
   pub keys-are_elements : (size : ℕ) → length keys ≡ rows * labels
       → AllElements (λ key. key < size) (λ key. key) keys
       → AllElements (λ key. key < size) (λ letter. letter.key) (letters_of of_mark weight keys rows labels)
@@ -52,16 +55,16 @@ module _ {E : Type 0} (of_mark : Mark → ℤ → E) (weight : Mark → ℤ) (ke
       let below = in-range (rows * labels) place place_in in
       elements (slice_index_or keys place 0) (IsIn-get_or keys place 0 (omega (arith, below, count))))
 
-module _ {E : Type 0} (r : SemiringOn E) (of_mark : Mark → ℤ → E)
-    (sound : (m : Mark) (w : ℤ) → r.is_sound (of_mark m w))
-    (reach : (m : Mark) (w : ℤ) → r.reach (of_mark m w) ≤ unsigned_abs w)
-    (weight : Mark → ℤ) (bound : ℕ → ℕ) (keys : List ℕ) (rows labels : ℕ)
-    (light : IsLight weight bound rows labels) where
+module _ {E W : Type 0} (r : SemiringOn E) (of_mark : Mark → W → E) (weight_reach : W → ℕ)
+    (sound : (m : Mark) (w : W) → r.is_sound (of_mark m w))
+    (reach : (m : Mark) (w : W) → r.reach (of_mark m w) ≤ weight_reach w)
+    (weight : Mark → W) (bound : ℕ → ℕ) (keys : List ℕ) (rows labels : ℕ)
+    (light : IsLight (λ m. weight_reach (weight m)) bound rows labels) where
   mark-reach : (m : Mark) → IsMarkInRange rows labels m → r.reach (of_mark m (weight m)) ≤ bound m.row
   mark-reach m in_range =
       let far = reach m (weight m) in
       let near = light.mark m in_range in
-      omega (arith, ints, far, near)
+      omega (arith, far, near)
 
   pub elems-good : AllElements (IsGood r) (λ letter. letter.elem) (letters_of of_mark weight keys rows labels)
   elems-good =
@@ -100,3 +103,27 @@ module _ {E : Type 0} (r : SemiringOn E) (of_mark : Mark → ℤ → E)
       let each = rows-reach 0 rows (omega arith) in
       let all = light.all in
       omega (arith, each, all)
+
+-- the letters of a job are lawful
+
+module _ {E W : Type 0} (r : SemiringOn E) (of_mark : Mark → W → E) (weight_reach : W → ℕ)
+    (sound : (m : Mark) (w : W) → r.is_sound (of_mark m w))
+    (reach : (m : Mark) (w : W) → r.reach (of_mark m w) ≤ weight_reach w)
+    (weight : Mark → W) (checked : PlainChecked) (rows : PlainRows) (keys : List ℕ) (size : ℕ) where
+  pub letters-lawful : first_heavy checked rows ≡ None
+      → ((m : Mark) → m.label < label_count checked
+      → weight_reach (weight m) ≤ row_weight checked rows (goal_measures checked.goal) m.row)
+      → length keys ≡ rows.count * label_count checked
+      → AllElements (λ key. key < size) (λ key. key) keys
+      → (letters : List (Letter E)) → letters ≡ letters_of of_mark weight keys rows.count (label_count checked)
+      → AreLawful r size rows.count (label_count checked) letters
+  letters-lawful light near count elements letters is =
+      let labels = label_count checked in
+      let bound = row_weight checked rows (goal_measures checked.goal) in
+      let within = weights-light checked rows (goal_measures checked.goal) light (λ m. weight_reach (weight m)) near in
+      subst (AreLawful r size rows.count labels) (sym is) (record {
+        count = length-map-range_with_len (letter_at of_mark weight keys labels) 0 (rows.count * labels);
+        keys = keys-are_elements of_mark weight keys rows.count labels size count elements;
+        elems = elems-good r of_mark weight_reach sound reach weight bound keys rows.count labels within;
+        within = reach-within r of_mark weight_reach sound reach weight bound keys rows.count labels within;
+      })

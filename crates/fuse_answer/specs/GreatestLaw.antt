@@ -9,20 +9,18 @@ use Rattle.semiring_kit.proofs.KitSums.{sum_is_greatest}
 use Rattle.gta_checked.specs.Plain.{PlainChecked}
 use Rattle.gta_checked.specs.PlainRows.{PlainRows}
 use Rattle.gta_meaning.specs.Answers.{greatest, greatest_of, totals}
-use Rattle.gta_meaning.specs.Heavy.{goal_measure}
 use Rattle.gta_meaning.specs.Kept.{kept}
 use Rattle.fuse_answer.specs.TotalLaws.{chosen-fold, kept-totals}
-use Rattle.fuse_answer.specs.Weights.{goal_weight}
+use Rattle.fuse_answer.specs.Weighed.{value_at}
 
 greatest-is : (ws : List ℤ) → aggregates.greatest ws ≡ greatest_of ws
 greatest-is [] = refl
 greatest-is (w ∷ ws) = chosen-fold int_max (λ a b c. omega (arith, ints, clamps)) w ws
 
 pub sum-is_greatest : (measure : ℕ) (checked : PlainChecked) (rows : PlainRows)
-    → goal_measure checked.goal ≡ Some measure
-    → sum_over max_plus (λ mark weight. Some weight) (goal_weight checked rows) (kept checked rows)
+    → sum_over max_plus (λ mark weight. Some weight) (value_at checked rows measure) (kept checked rows)
     ≡ greatest checked rows measure
-sum-is_greatest measure checked rows is =
-    sum_is_greatest (goal_weight checked rows) (kept checked rows)
-    ∙ ap aggregates.greatest (kept-totals checked rows measure (goal_measure checked.goal) is)
+sum-is_greatest measure checked rows =
+    sum_is_greatest (value_at checked rows measure) (kept checked rows)
+    ∙ ap aggregates.greatest (kept-totals checked rows measure)
     ∙ greatest-is (totals checked rows measure)

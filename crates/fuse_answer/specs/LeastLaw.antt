@@ -9,20 +9,18 @@ use Rattle.semiring_kit.proofs.KitSums.{sum_is_least}
 use Rattle.gta_checked.specs.Plain.{PlainChecked}
 use Rattle.gta_checked.specs.PlainRows.{PlainRows}
 use Rattle.gta_meaning.specs.Answers.{least, least_of, totals}
-use Rattle.gta_meaning.specs.Heavy.{goal_measure}
 use Rattle.gta_meaning.specs.Kept.{kept}
 use Rattle.fuse_answer.specs.TotalLaws.{chosen-fold, kept-totals}
-use Rattle.fuse_answer.specs.Weights.{goal_weight}
+use Rattle.fuse_answer.specs.Weighed.{value_at}
 
 least-is : (ws : List ℤ) → aggregates.least ws ≡ least_of ws
 least-is [] = refl
 least-is (w ∷ ws) = chosen-fold int_min (λ a b c. omega (arith, ints, clamps)) w ws
 
 pub sum-is_least : (measure : ℕ) (checked : PlainChecked) (rows : PlainRows)
-    → goal_measure checked.goal ≡ Some measure
-    → sum_over min_plus (λ mark weight. Some weight) (goal_weight checked rows) (kept checked rows)
+    → sum_over min_plus (λ mark weight. Some weight) (value_at checked rows measure) (kept checked rows)
     ≡ least checked rows measure
-sum-is_least measure checked rows is =
-    sum_is_least (goal_weight checked rows) (kept checked rows)
-    ∙ ap aggregates.least (kept-totals checked rows measure (goal_measure checked.goal) is)
+sum-is_least measure checked rows =
+    sum_is_least (value_at checked rows measure) (kept checked rows)
+    ∙ ap aggregates.least (kept-totals checked rows measure)
     ∙ least-is (totals checked rows measure)

@@ -1,6 +1,9 @@
-pub mod Weights
 pub mod Leaves
 pub mod Letters
+pub mod Weighed
+pub mod WeightLaws
+pub mod Ranks
+pub mod RankOrder
 pub mod Keys
 pub mod Sizes
 pub mod TotalLaws
@@ -9,3 +12,4 @@ pub mod AnyLaw
 pub mod GreatestLaw
 pub mod LeastLaw
 pub mod BestLaw
+pub mod RankLaws

@@ -1,5 +1,6 @@
 //! Whether a candidate passes.
 
+use crate::job::PreparedJob;
 use crate::question::Question;
 use semiring_kit::Truth;
 use std::alloc::{AllocError, Global};
@@ -9,6 +10,8 @@ use std::alloc::{AllocError, Global};
 pub struct Whether;
 
 impl Question for Whether {
+    ghost use Rattle.std.specs.Prelude.{[], pos, refl};
+    ghost use Rattle.std.proofs.Common.{arith};
     ghost use Rattle.gta_checked.specs.declared.resolved.Goal.TheVariants as goals;
     ghost use Rattle.gta_meaning.specs.Answers.{any};
     ghost use Rattle.fuse_answer.specs.AnyLaw.{sum-is_any};
@@ -19,20 +22,28 @@ impl Question for Whether {
 
     ghost goal = { λ question. goals.Any };
 
-    ghost is_weighed = { λ question goal. Unit {0} };
+    ghost measures = { λ question. [] };
 
     ghost kit = { λ question. record {} };
+
+    ghost weight = { λ question checked rows m. pos 0 };
 
     ghost answer_of = { λ question sum. sum };
 
     ghost plain_answer = { λ question. any };
 
-    ghost sum_answers = { λ question checked rows weighed. sum-is_any checked rows };
+    ghost sum_answers = { λ question. sum-is_any (λ m. pos 0) };
 
-    ghost own_is_weighed = { λ question. tt };
+    ghost weight_within = { λ question checked rows measures weighed m below. Prim.omega arith };
+
+    ghost own_measures = { λ question. refl };
 
     fn kit(&self) -> Truth {
         Truth
+    }
+
+    fn weight(&self, _prepared: &PreparedJob, _row: u32, _label: u32) -> i64 {
+        0
     }
 
     fn kept_a_key(&self) -> u32 {

@@ -3,6 +3,8 @@
 ghost use Rattle.std.specs.Prelude.{◌≤◌};
 ghost use Rattle.gta_spec.specs.declared.limits.TheConstants.{KEEP_LIMIT};
 
+use crate::job::PreparedJob;
+use crate::letters::value_at;
 use crate::question::Question;
 use best_k::{Best, RunEntry, RunsByTotal, listed};
 use first_k::{FirstK, Firsts};
@@ -20,28 +22,31 @@ pub struct BestOf {
 }
 
 impl Question for BestOf {
-    ghost use Rattle.std.specs.Prelude.{◌≡◌, Some, map, refl};
+    ghost use Rattle.std.specs.Prelude.{[], ◌∷◌, inl, map, refl};
     ghost use Rattle.gta_checked.specs.declared.resolved.Goal.TheVariants as goals;
     ghost use Rattle.best_k.specs.Best.{entry_of};
     ghost use Rattle.best_k.specs.RunEntries as entries;
     ghost use Rattle.gta_meaning.specs.Answers.{best};
-    ghost use Rattle.gta_meaning.specs.Heavy.{goal_measure};
     ghost use Rattle.fuse_answer.specs.BestLaw.{sum-is_best};
+    ghost use Rattle.fuse_answer.specs.WeightLaws.{value-within};
+    ghost use Rattle.fuse_answer.specs.Weighed.{value_at};
 
-    type Kit = FirstK<RunsByTotal>;
+    type Kit = FirstK<RunsByTotal<i64>>;
 
-    type Answer = Best;
+    type Answer = Best<i64>;
 
     ghost goal = { λ question. goals.Best question.k question.greatest question.measure };
 
-    ghost is_weighed = { λ question goal. goal_measure goal ≡ Some question.measure };
+    ghost measures = { λ question. question.measure ∷ [] };
 
     ghost kit = { λ question. record {
-      ranked = record { greatest = question.greatest };
+      ranked = record { greatest = question.greatest; totals = record {} };
       k = question.k;
       at_least_one = question.some_kept;
       at_most_64 = question.few_kept;
     } };
+
+    ghost weight = { λ question checked rows. value_at checked rows question.measure };
 
     ghost answer_of = { λ question sum. map entries.listed sum };
 
@@ -50,14 +55,21 @@ impl Question for BestOf {
 
     ghost sum_answers = { λ question. sum-is_best question.k question.greatest question.measure };
 
-    ghost own_is_weighed = { λ question. refl };
+    ghost weight_within = { λ question checked rows measures weighed m.
+        value-within checked rows measures question.measure m (weighed question.measure (inl refl)) };
 
-    fn kit(&self) -> FirstK<RunsByTotal> {
+    ghost own_measures = { λ question. refl };
+
+    fn kit(&self) -> FirstK<RunsByTotal<i64>> {
         let greatest = self.greatest;
         FirstK {
-            ranked: RunsByTotal { greatest },
+            ranked: RunsByTotal::of(greatest),
             k: self.k,
         }
+    }
+
+    fn weight(&self, prepared: &PreparedJob, row: u32, label: u32) -> i64 {
+        value_at(prepared, self.measure, row, label)
     }
 
     fn kept_a_key(&self) -> u32 {
@@ -68,7 +80,11 @@ impl Question for BestOf {
         rows
     }
 
-    fn answer_of(&self, alloc: Global, sum: Firsts<RunEntry>) -> Result<Best, AllocError> {
+    fn answer_of(
+        &self,
+        alloc: Global,
+        sum: Firsts<RunEntry<i64>>,
+    ) -> Result<Best<i64>, AllocError> {
         listed(alloc, &sum)
     }
 }

@@ -4,23 +4,27 @@
 ghost use Rattle.std.specs.Prelude.{◌≡◌, ◌<◌, ◌≤◌, IfOk, length};
 ghost use Rattle.step_count.specs.Blanks.{IsBlankOf};
 ghost use Rattle.semiring_kit.specs.Aggregates.{sum_over};
+ghost use Rattle.semiring_kit.specs.Semiring.{IsGood};
 ghost use Rattle.shape_gen.specs.Candidates.{candidates};
 ghost use Rattle.fuse_core.specs.Letters.{key_of, weight_of};
 ghost use Rattle.fuse_core.specs.Plans.{accepted_sum};
 ghost use Rattle.gta_checked.specs.PlainRows.{plain_rows};
 ghost use Rattle.gta_meaning.specs.Kept.{kept};
 ghost use Rattle.fuse_answer.specs.Keys.{DecidePassing};
-ghost use Rattle.fuse_answer.specs.Weights.{goal_weight};
+ghost use Rattle.fuse_answer.specs.Weighed.{AreWeighed};
 
 use crate::crew::Crew;
 use crate::job::PreparedJob;
 use crate::leaves::{DENSE_KEYS, lane_crew};
-use crate::sum::{plan_by_keys, sum_of_kept};
+use crate::letters::letters_of;
+use crate::question::Question;
+use crate::sum::{plan_by_letters, sum_of_kept};
 use fuse_core::{Plan, finish};
 use gta_spec::ROW_LIMIT;
 use interval_kit::{Fused, cut_of};
 use lane_rows::{DenseKit, Lanes};
 use monoid_kit::Monoid;
+use semiring_kit::Semiring;
 use std::alloc::{AllocError, Global};
 use std::marker::Brand;
 use std::sync::ledger::{Blank, Ledger};
@@ -31,44 +35,66 @@ use worker_pool::{Gate, solve};
 /// The sum, over the candidates that pass, of the products of their marks' elements, as `sum_of_kept` gives it:
 /// over rows of lanes where there are at least `DENSE_KEYS` keys, and then by longer leaves in large jobs.
 /// Refuses only for want of memory.
-pub fn lane_sum_of_kept<R: Threads + Sync, G: Gate + Sync, S: Lanes + Sync>(
+pub fn lane_sum_of_kept<R: Threads + Sync, G: Gate + Sync, Q: Question>(
     crew: &Crew<R, G>,
     prepared: &PreparedJob,
-    kit: S,
-) -> Result<S::Elem, AllocError>
-    ensures { let job = prepared.now.job in
-        let weight = goal_weight job.checked (plain_rows job.rows) in
+    question: &Q,
+) -> Result<<Q::Kit as Semiring>::Elem, AllocError>
+where
+    Q::Kit: Lanes,
+    requires weighed { AreWeighed (Q.measures question.now) prepared.now.job.checked.goal }
+    ensures sum { let job = prepared.now.job in
+        let kit = Q.kit question.now in
+        let weight = Q.weight question.now job.checked (plain_rows job.rows) in
         let candidates = kept job.checked (plain_rows job.rows) in
-        IfOk result (λ sum. sum ≡ sum_over (S.ring kit) (S.of_mark kit) weight candidates) }
+        IfOk result (λ sum. sum ≡ sum_over (Q.Kit.ring kit) (Q.Kit.of_mark kit) weight candidates) }
+    ensures is_good { IfOk result (IsGood (Q.Kit.ring (Q.kit question.now))) }
 {
     let tests = &prepared.tests;
     let size = tests.product().size();
     if size < DENSE_KEYS {
-        return sum_of_kept(crew, prepared, kit);
+        return sum_of_kept(crew, prepared, question);
     }
-    let keys = tests.product().twin(crew.alloc)?;
-    let kit = DenseKit { kit, keys };
+    let monoid = tests.product().twin(crew.alloc)?;
     let crew = lane_crew(crew, prepared.job.rows.count, size);
-    dense_sum_by_keys(&crew, prepared, kit, tests.letters(), tests.accept())
+    dense_sum_by_keys(
+        &crew,
+        prepared,
+        question,
+        monoid,
+        tests.letters(),
+        tests.accept(),
+    )
 }
 
 /// The same, with keys of any monoid that decide which candidates pass.
-fn dense_sum_by_keys<R: Threads + Sync, G: Gate + Sync, S: Lanes + Sync, M: Monoid + Sync>(
+fn dense_sum_by_keys<R: Threads + Sync, G: Gate + Sync, Q: Question, M: Monoid + Sync>(
     crew: &Crew<R, G>,
     prepared: &PreparedJob,
-    kit: DenseKit<S, M>,
+    question: &Q,
+    monoid: M,
     keys: &[u32],
     accept: &[bool],
-) -> Result<S::Elem, AllocError>
+) -> Result<<Q::Kit as Semiring>::Elem, AllocError>
+where
+    Q::Kit: Lanes,
+    requires weighed { AreWeighed (Q.measures question.now) prepared.now.job.checked.goal }
     requires decide { let job = prepared.now.job in DecidePassing job.checked (plain_rows job.rows)
-        (M.size kit.keys) (M.unit kit.keys) (M.mul kit.keys) keys.now accept.now }
-    ensures { let job = prepared.now.job in
-        let weight = goal_weight job.checked (plain_rows job.rows) in
+        (M.size monoid) (M.unit monoid) (M.mul monoid) keys.now accept.now }
+    ensures sum { let job = prepared.now.job in
+        let kit = Q.kit question.now in
+        let weight = Q.weight question.now job.checked (plain_rows job.rows) in
         let candidates = kept job.checked (plain_rows job.rows) in
-        IfOk result (λ sum. sum ≡ sum_over (S.ring kit.kit) (S.of_mark kit.kit) weight candidates) }
+        IfOk result (λ sum. sum ≡ sum_over (Q.Kit.ring kit) (Q.Kit.of_mark kit) weight candidates) }
+    ensures is_good { IfOk result (IsGood (Q.Kit.ring (Q.kit question.now))) }
 {
-    let plan = plan_by_keys(crew.alloc, prepared, kit, keys)?;
-    dense_accepted_sum::<R, G, S, M, Brand>(crew, &plan, accept, Blank::new(1))
+    let letters = letters_of(crew.alloc, prepared, question, keys)?;
+    let kit = DenseKit {
+        kit: question.kit(),
+        keys: monoid,
+    };
+    let plan = plan_by_letters(&prepared.job, kit, letters);
+    dense_accepted_sum::<R, G, Q::Kit, M, Brand>(crew, &plan, accept, Blank::new(1))
 }
 
 /// The sum of the weights of the plan's candidates whose keys are accepted, by so many workers.
@@ -88,12 +114,13 @@ fn dense_accepted_sum<
     requires few { plan.now.rows ≤ ROW_LIMIT }
     requires one_a_key { length accept.now ≡ M.size plan.now.kit.keys }
     requires blank { IsBlankOf L.name L.parts blank }
-    ensures { let ring = S.ring plan.now.kit.kit in
+    ensures sum { let ring = S.ring plan.now.kit.kit in
         let monoid = plan.now.kit.keys in
         let key = key_of (M.unit monoid) (M.mul monoid) plan.now.labels plan.now.letters in
         let weight = weight_of ring plan.now.labels plan.now.letters in
         let all = candidates plan.now.shape plan.now.rows plan.now.labels in
         IfOk result (λ sum. sum ≡ accepted_sum ring key weight accept.now all) }
+    ensures is_good { IfOk result (IsGood (S.ring plan.now.kit.kit)) }
 {
     let cut = cut_of(crew.alloc, plan.rows(), crew.leaf)?;
     let mut steps = Steps::<L>::new(blank);

@@ -1,5 +1,7 @@
 //! The greatest total.
 
+use crate::job::PreparedJob;
+use crate::letters::value_at;
 use crate::question::Question;
 use semiring_kit::MaxPlus;
 use std::alloc::{AllocError, Global};
@@ -11,11 +13,12 @@ pub struct GreatestOf {
 }
 
 impl Question for GreatestOf {
-    ghost use Rattle.std.specs.Prelude.{◌≡◌, Some, refl};
+    ghost use Rattle.std.specs.Prelude.{[], ◌∷◌, inl, refl};
     ghost use Rattle.gta_checked.specs.declared.resolved.Goal.TheVariants.{Max};
     ghost use Rattle.gta_meaning.specs.Answers.{greatest};
-    ghost use Rattle.gta_meaning.specs.Heavy.{goal_measure};
     ghost use Rattle.fuse_answer.specs.GreatestLaw.{sum-is_greatest};
+    ghost use Rattle.fuse_answer.specs.WeightLaws.{value-within};
+    ghost use Rattle.fuse_answer.specs.Weighed.{value_at};
 
     type Kit = MaxPlus;
 
@@ -23,9 +26,11 @@ impl Question for GreatestOf {
 
     ghost goal = { λ question. Max question.measure };
 
-    ghost is_weighed = { λ question goal. goal_measure goal ≡ Some question.measure };
+    ghost measures = { λ question. question.measure ∷ [] };
 
     ghost kit = { λ question. record {} };
+
+    ghost weight = { λ question checked rows. value_at checked rows question.measure };
 
     ghost answer_of = { λ question sum. sum };
 
@@ -33,10 +38,17 @@ impl Question for GreatestOf {
 
     ghost sum_answers = { λ question. sum-is_greatest question.measure };
 
-    ghost own_is_weighed = { λ question. refl };
+    ghost weight_within = { λ question checked rows measures weighed m.
+        value-within checked rows measures question.measure m (weighed question.measure (inl refl)) };
+
+    ghost own_measures = { λ question. refl };
 
     fn kit(&self) -> MaxPlus {
         MaxPlus
+    }
+
+    fn weight(&self, prepared: &PreparedJob, row: u32, label: u32) -> i64 {
+        value_at(prepared, self.measure, row, label)
     }
 
     fn kept_a_key(&self) -> u32 {

@@ -1,23 +1,24 @@
 //! The sum over the candidates that pass, in any semiring.
 
-ghost use Rattle.std.specs.Prelude.{◌≡◌, ◌*◌, ◌<◌, ◌≤◌, IfOk, length};
+ghost use Rattle.std.specs.Prelude.{◌≡◌, ◌≤◌, IfOk, length};
 ghost use Rattle.step_count.specs.Blanks.{IsBlankOf};
-ghost use Rattle.monoid_kit.specs.Items.{AllElements};
 ghost use Rattle.semiring_kit.specs.Aggregates.{sum_over};
 ghost use Rattle.shape_gen.specs.Candidates.{candidates};
+ghost use Rattle.semiring_kit.specs.Semiring.{IsGood};
 ghost use Rattle.fuse_core.specs.Letters.{key_of, weight_of};
 ghost use Rattle.fuse_core.specs.Plans.{accepted_sum};
 ghost use Rattle.gta_checked.specs.PlainRows.{plain_rows};
 ghost use Rattle.gta_meaning.specs.InRange as in_range;
 ghost use Rattle.gta_meaning.specs.Kept.{kept};
 ghost use Rattle.fuse_answer.specs.Keys.{DecidePassing};
-ghost use Rattle.fuse_answer.specs.Letters as letters;
-ghost use Rattle.fuse_answer.specs.Weights.{goal_weight};
+ghost use Rattle.fuse_answer.specs.Letters.{AreLawful};
+ghost use Rattle.fuse_answer.specs.Weighed.{AreWeighed};
 
 use crate::crew::Crew;
-use crate::job::PreparedJob;
+use crate::job::{Job, PreparedJob};
 use crate::letters::letters_of;
-use fuse_core::{Plan, finish, plan_of};
+use crate::question::Question;
+use fuse_core::{Letter, Plan, finish, plan_of};
 use gta_meaning::label_count;
 use gta_spec::ROW_LIMIT;
 use interval_kit::{Fused, cut_of};
@@ -31,72 +32,81 @@ use std::thread::Threads;
 use step_count::Steps;
 use worker_pool::{Gate, solve};
 
-/// The sum, over the candidates that pass, of the products of their marks' elements.
+/// The sum, over the candidates that pass, of the products of their marks' elements, each of the question's weight.
 /// No candidate is listed: workers compute leaves of rows, neighbours are joined, and the value of all
 /// rows is finished. Refuses only for want of memory.
-pub fn sum_of_kept<R: Threads + Sync, G: Gate + Sync, S: Semiring + Sync>(
+pub fn sum_of_kept<R: Threads + Sync, G: Gate + Sync, Q: Question>(
     crew: &Crew<R, G>,
     prepared: &PreparedJob,
-    kit: S,
-) -> Result<S::Elem, AllocError>
-    ensures { let job = prepared.now.job in
-        let weight = goal_weight job.checked (plain_rows job.rows) in
+    question: &Q,
+) -> Result<<Q::Kit as Semiring>::Elem, AllocError>
+    requires weighed { AreWeighed (Q.measures question.now) prepared.now.job.checked.goal }
+    ensures sum { let job = prepared.now.job in
+        let kit = Q.kit question.now in
+        let weight = Q.weight question.now job.checked (plain_rows job.rows) in
         let candidates = kept job.checked (plain_rows job.rows) in
-        IfOk result (λ sum. sum ≡ sum_over (S.ring kit) (S.of_mark kit) weight candidates) }
+        IfOk result (λ sum. sum ≡ sum_over (Q.Kit.ring kit) (Q.Kit.of_mark kit) weight candidates) }
+    ensures is_good { IfOk result (IsGood (Q.Kit.ring (Q.kit question.now))) }
 {
     let tests = &prepared.tests;
-    let keys = tests.product().twin(crew.alloc)?;
-    let kit = SparseKit { kit, keys };
-    sum_by_keys(crew, prepared, kit, tests.letters(), tests.accept())
+    let monoid = tests.product().twin(crew.alloc)?;
+    sum_by_keys(
+        crew,
+        prepared,
+        question,
+        monoid,
+        tests.letters(),
+        tests.accept(),
+    )
 }
 
 /// The same, with keys of any monoid that decide which candidates pass.
-fn sum_by_keys<R: Threads + Sync, G: Gate + Sync, S: Semiring + Sync, M: Monoid + Sync>(
+fn sum_by_keys<R: Threads + Sync, G: Gate + Sync, Q: Question, M: Monoid + Sync>(
     crew: &Crew<R, G>,
     prepared: &PreparedJob,
-    kit: SparseKit<S, M>,
+    question: &Q,
+    monoid: M,
     keys: &[u32],
     accept: &[bool],
-) -> Result<S::Elem, AllocError>
+) -> Result<<Q::Kit as Semiring>::Elem, AllocError>
+    requires weighed { AreWeighed (Q.measures question.now) prepared.now.job.checked.goal }
     requires decide { let job = prepared.now.job in DecidePassing job.checked (plain_rows job.rows)
-        (M.size kit.keys) (M.unit kit.keys) (M.mul kit.keys) keys.now accept.now }
-    ensures { let job = prepared.now.job in
-        let weight = goal_weight job.checked (plain_rows job.rows) in
+        (M.size monoid) (M.unit monoid) (M.mul monoid) keys.now accept.now }
+    ensures sum { let job = prepared.now.job in
+        let kit = Q.kit question.now in
+        let weight = Q.weight question.now job.checked (plain_rows job.rows) in
         let candidates = kept job.checked (plain_rows job.rows) in
-        IfOk result (λ sum. sum ≡ sum_over (S.ring kit.kit) (S.of_mark kit.kit) weight candidates) }
+        IfOk result (λ sum. sum ≡ sum_over (Q.Kit.ring kit) (Q.Kit.of_mark kit) weight candidates) }
+    ensures is_good { IfOk result (IsGood (Q.Kit.ring (Q.kit question.now))) }
 {
-    let plan = plan_by_keys(crew.alloc, prepared, kit, keys)?;
-    accepted_sum::<R, G, S, M, Brand>(crew, &plan, accept, Blank::new(1))
+    let letters = letters_of(crew.alloc, prepared, question, keys)?;
+    let kit = SparseKit {
+        kit: question.kit(),
+        keys: monoid,
+    };
+    let plan = plan_by_letters(&prepared.job, kit, letters);
+    accepted_sum::<R, G, Q::Kit, M, Brand>(crew, &plan, accept, Blank::new(1))
 }
 
-/// The plan of the rows, with a key and the element of a weight for each row and label.
-pub(crate) fn plan_by_keys<K: MapKit>(
-    alloc: Global,
-    prepared: &PreparedJob,
+/// The plan of the rows, with a letter for each row and label.
+pub(crate) fn plan_by_letters<K: MapKit>(
+    job: &Job,
     kit: K,
-    keys: &[u32],
-) -> Result<Plan<K>, AllocError>
-    requires count { let job = prepared.now.job in
-        length keys.now ≡ job.rows.count * in_range.label_count job.checked }
-    requires keys_are_elements { let size = K.Keys.size (K.keys kit) in
-        AllElements (λ key. key < size) (λ key. key) keys.now }
-    ensures { let job = prepared.now.job in
-        let weight = goal_weight job.checked (plain_rows job.rows) in
-        let labels = in_range.label_count job.checked in
-        let all = letters.letters_of (K.Kit.of_mark (K.kit kit)) weight keys.now job.rows.count labels in
-        IfOk result (λ plan. plan ≡ record {
-          shape = job.checked.shape;
-          rows = job.rows.count;
-          labels = labels;
-          kit = kit;
-          letters = all;
-        }) }
+    letters: Vec<Letter<<K::Kit as Semiring>::Elem>>,
+) -> Plan<K>
+    requires lawful { AreLawful (K.Kit.ring (K.kit kit)) (K.Keys.size (K.keys kit))
+        job.now.rows.count (in_range.label_count job.now.checked) letters.items }
+    ensures { result ≡ record {
+      shape = job.now.checked.shape;
+      rows = job.now.rows.count;
+      labels = in_range.label_count job.now.checked;
+      kit = kit;
+      letters = letters.items;
+    } }
 {
-    let letters = letters_of(alloc, prepared, kit.kit(), keys)?;
-    let job = &prepared.job;
     let labels = label_count(&job.checked);
     let shape = *job.checked.shape();
-    Ok(plan_of(shape, job.rows.count, labels, kit, letters))
+    plan_of(shape, job.rows.count, labels, kit, letters)
 }
 
 /// The sum of the weights of the plan's candidates whose keys are accepted, by so many workers.
@@ -110,12 +120,13 @@ fn accepted_sum<R: Threads + Sync, G: Gate + Sync, S: Semiring + Sync, M: Monoid
     requires few { plan.now.rows ≤ ROW_LIMIT }
     requires one_a_key { length accept.now ≡ M.size plan.now.kit.keys }
     requires blank { IsBlankOf L.name L.parts blank }
-    ensures { let ring = S.ring plan.now.kit.kit in
+    ensures sum { let ring = S.ring plan.now.kit.kit in
         let monoid = plan.now.kit.keys in
         let key = key_of (M.unit monoid) (M.mul monoid) plan.now.labels plan.now.letters in
         let weight = weight_of ring plan.now.labels plan.now.letters in
         let all = candidates plan.now.shape plan.now.rows plan.now.labels in
         IfOk result (λ sum. sum ≡ accepted_sum ring key weight accept.now all) }
+    ensures is_good { IfOk result (IsGood (S.ring plan.now.kit.kit)) }
 {
     let cut = cut_of(crew.alloc, plan.rows(), crew.leaf)?;
     let mut steps = Steps::<L>::new(blank);

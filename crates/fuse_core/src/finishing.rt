@@ -18,7 +18,7 @@ use semiring_kit::Semiring;
 use std::alloc::{AllocError, Global};
 
 /// The sum of the weights of exactly those candidates whose keys are accepted, from a value that stands for all rows.
-/// `accept` has an entry for each key. A sum takes time in proportion to the number of keys.
+/// `accept` has an entry for each key. A sum takes time in proportion to the number of keys, and it is good.
 pub fn finish<K: MapKit>(
     alloc: Global,
     plan: &Plan<K>,
@@ -27,13 +27,14 @@ pub fn finish<K: MapKit>(
 ) -> Result<<K::Kit as Semiring>::Elem, AllocError>
     requires stands { ⟦<Plan<K> as Fused>⟧.stands plan.now 0 plan.now.rows value.now }
     requires one_a_key { length accept.now ≡ K.Keys.size (K.keys plan.now.kit) }
-    ensures { let ring = K.Kit.ring (K.kit plan.now.kit) in
+    ensures sum { let ring = K.Kit.ring (K.kit plan.now.kit) in
         let unit = K.Keys.unit (K.keys plan.now.kit) in
         let times = K.Keys.mul (K.keys plan.now.kit) in
         let key = key_of unit times plan.now.labels plan.now.letters in
         let weight = weight_of ring plan.now.labels plan.now.letters in
         let all = candidates plan.now.shape plan.now.rows plan.now.labels in
         IfOk result (λ sum. sum ≡ accepted_sum ring key weight accept.now all) }
+    ensures is_good { IfOk result (IsGood (K.Kit.ring (K.kit plan.now.kit))) }
 {
     let ending = ending_of(plan.shape);
     let sum = accepted_of(alloc, &plan.kit, &value.maps[ending.place], accept)?;
@@ -100,9 +101,10 @@ fn with_empty<K: MapKit>(
 ) -> Result<<K::Kit as Semiring>::Elem, AllocError>
     requires one_a_key { length accept.now ≡ K.Keys.size (K.keys kit.now) }
     requires is_good { IsGood (K.Kit.ring (K.kit kit.now)) sum }
-    ensures { let ring = K.Kit.ring (K.kit kit.now) in
+    ensures value { let ring = K.Kit.ring (K.kit kit.now) in
         let empty = masked ring (accepts accept.now (K.Keys.unit (K.keys kit.now))) ring.one in
         IfOk result (λ with_empty. with_empty ≡ ring.add empty sum) }
+    ensures is_good { IfOk result (IsGood (K.Kit.ring (K.kit kit.now))) }
 {
     if accept[kit.keys().unit() as usize] {
         let one = kit.kit().one(alloc)?;

@@ -68,12 +68,7 @@ pub(crate) fn push_totals(
 }
 
 // The third total behind a space, where there are more than two parts.
-fn push_third(
-    alloc: Global,
-    text: &mut Vec<u8>,
-    parts: u32,
-    total: i64,
-) -> Result<(), AllocError>
+fn push_third(alloc: Global, text: &mut Vec<u8>, parts: u32, total: i64) -> Result<(), AllocError>
     ensures { OnOk result (text.new.items ≡ text.old.items ++ third_text parts total) }
 {
     if parts <= 2 {

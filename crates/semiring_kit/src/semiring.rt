@@ -16,7 +16,7 @@ pub trait Semiring: Drop {
     type Elem: Send + Sync + Drop;
 
     /// What a mark weighs.
-    type Weight: Copy;
+    type Weight: Copy + Send + Sync;
 
     ghost ring: { Self → SemiringOn Self.Elem };
 
