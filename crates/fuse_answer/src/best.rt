@@ -22,7 +22,8 @@ pub struct BestOf {
 }
 
 impl Question for BestOf {
-    ghost use Rattle.std.specs.Prelude.{[], ◌∷◌, inl, map, refl};
+    ghost use Rattle.std.specs.Prelude.{[], ◌∷◌, map, refl};
+    ghost use Rattle.std.proofs.Common.{inl};
     ghost use Rattle.gta_checked.specs.declared.resolved.Goal.TheVariants as goals;
     ghost use Rattle.best_k.specs.Best.{entry_of};
     ghost use Rattle.best_k.specs.RunEntries as entries;
@@ -58,7 +59,7 @@ impl Question for BestOf {
     ghost weight_within = { λ question checked rows measures weighed m.
         value-within checked rows measures question.measure m (weighed question.measure (inl refl)) };
 
-    ghost own_measures = { λ question. refl };
+    ghost own_are_weighed = { λ question measure measure_in. measure_in };
 
     fn kit(&self) -> FirstK<RunsByTotal<i64>> {
         let greatest = self.greatest;

@@ -36,7 +36,7 @@ impl Question for HowMany {
 
     ghost weight_within = { λ question checked rows measures weighed m below. Prim.omega arith };
 
-    ghost own_measures = { λ question. refl };
+    ghost own_are_weighed = { λ question measure measure_in. measure_in };
 
     fn kit(&self) -> Count {
         Count

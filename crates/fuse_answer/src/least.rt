@@ -13,7 +13,8 @@ pub struct LeastOf {
 }
 
 impl Question for LeastOf {
-    ghost use Rattle.std.specs.Prelude.{[], ◌∷◌, inl, refl};
+    ghost use Rattle.std.specs.Prelude.{[], ◌∷◌, refl};
+    ghost use Rattle.std.proofs.Common.{inl};
     ghost use Rattle.gta_checked.specs.declared.resolved.Goal.TheVariants.{Min};
     ghost use Rattle.gta_meaning.specs.Answers.{least};
     ghost use Rattle.fuse_answer.specs.LeastLaw.{sum-is_least};
@@ -41,7 +42,7 @@ impl Question for LeastOf {
     ghost weight_within = { λ question checked rows measures weighed m.
         value-within checked rows measures question.measure m (weighed question.measure (inl refl)) };
 
-    ghost own_measures = { λ question. refl };
+    ghost own_are_weighed = { λ question measure measure_in. measure_in };
 
     fn kit(&self) -> MinPlus {
         MinPlus

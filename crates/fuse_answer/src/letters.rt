@@ -5,6 +5,7 @@ ghost use Rattle.monoid_kit.specs.Items.{IsIn};
 ghost use Rattle.semiring_kit.specs.Semiring.{weight_bound};
 ghost use Rattle.shape_gen.specs.Candidates.{mark};
 ghost use Rattle.gta_checked.specs.PlainRows.{plain_rows};
+ghost use Rattle.gta_checked.specs.Within.{IsWithinLimits};
 ghost use Rattle.gta_meaning.specs.Heavy.{goal_measures};
 ghost use Rattle.gta_meaning.specs.InRange as in_range;
 ghost use Rattle.fuse_answer.specs.Letters as letters;
@@ -55,12 +56,13 @@ pub(crate) fn letters_of<Q: Question>(
 
 /// The value of a measure of the aggregate. No row is heavy, so that it fits.
 pub(crate) fn value_at(prepared: &PreparedJob, measure: u32, row: u32, label: u32) -> i64
+    requires within { IsWithinLimits prepared.now.job.checked }
     requires weighed { IsIn measure (goal_measures prepared.now.job.checked.goal) }
     requires row_in_range { row < prepared.now.job.rows.count }
     requires label_in_range { label < in_range.label_count prepared.now.job.checked }
     ensures value { let job = prepared.now.job in
         result ≡ weighed.value_at job.checked (plain_rows job.rows) measure (mark row label) }
-    ensures within { unsigned_abs result ≤ weight_bound }
+    ensures bounded { unsigned_abs result ≤ weight_bound }
 {
     let job = &prepared.job;
     value_of(&job.checked, &job.rows, measure, row, label) as i64

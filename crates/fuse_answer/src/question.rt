@@ -10,8 +10,9 @@ ghost use Rattle.shape_gen.specs.Candidates.{mark};
 ghost use Rattle.shape_gen.specs.declared.mark.Mark.{Mark};
 ghost use Rattle.gta_checked.specs.Plain.{PlainChecked};
 ghost use Rattle.gta_checked.specs.PlainRows.{PlainRows, plain_rows};
+ghost use Rattle.gta_checked.specs.Within.{IsWithinLimits};
 ghost use Rattle.gta_checked.specs.declared.resolved.Goal.{Goal};
-ghost use Rattle.gta_meaning.specs.Heavy.{goal_measures, row_weight};
+ghost use Rattle.gta_meaning.specs.Heavy.{row_weight};
 ghost use Rattle.gta_meaning.specs.InRange.{label_count};
 ghost use Rattle.gta_meaning.specs.Kept.{kept};
 ghost use Rattle.fuse_answer.specs.Sizes as sizes;
@@ -63,6 +64,7 @@ pub trait Question: Drop {
         row: u32,
         label: u32,
     ) -> <Self::Kit as Semiring>::Weight
+        requires within { IsWithinLimits prepared.now.job.checked }
         requires weighed { AreWeighed (measures self.now) prepared.now.job.checked.goal }
         requires row_in_range { row < prepared.now.job.rows.count }
         requires label_in_range { label < label_count prepared.now.job.checked }
@@ -102,7 +104,7 @@ pub trait Question: Drop {
         → Self.Kit.weight_reach (kit question) (weight question checked rows m)
         ≤ row_weight checked rows weighed m.row };
 
-    ghost own_measures: { (question : Self) → measures question ≡ goal_measures (goal question) };
+    ghost own_are_weighed: { (question : Self) → AreWeighed (measures question) (goal question) };
 }
 
 /// The answer to the question over the candidates that pass, by lists of keys. Refuses only for want of memory.

@@ -6,17 +6,21 @@ use Rattle.std.specs.declared.cmp.Ordering.{Ordering}
 use Rattle.std.proofs.lemmas.List.Elements.{All-nil, All-cons, All-filter, All-map, All-take, All-weaker}
 use Rattle.shape_gen.specs.declared.mark.Mark.{Mark}
 use Rattle.witness_order.specs.Before.{before}
-use Rattle.witness_order.specs.Ranked.{placed, ranked}
+use Rattle.witness_order.specs.Ranked.{first_of, placed, ranked}
+use Rattle.semiring_kit.specs.declared.weight.Lex.{Lex}
 use Rattle.best_k.specs.declared.entry.Entry.{Entry}
 use Rattle.best_k.specs.Best.{entry_of}
 use Rattle.gta_checked.specs.PlainRows.{PlainRows}
 use Rattle.gta_checked.specs.Plain.{PlainChecked}
+use Rattle.gta_checked.specs.declared.resolved.Rank.{Rank}
 use Rattle.gta_meaning.specs.Answers as answers
 use Rattle.gta_meaning.specs.Answers.{best}
 use Rattle.gta_meaning.specs.InRange.{IsInRangeOf, IsMarkInRange, label_count}
 use Rattle.gta_meaning.specs.Kept.{generated, kept}
+use Rattle.gta_meaning.specs.Ranks.{best_ranked, rank_before, ranked_entry}
 use Rattle.gta_meaning.specs.Tests.{passes}
 use Rattle.gta_meaning.proofs.Generated.{generated-IsInRangeOf}
+use Rattle.fuse_answer.specs.Ranks.{ranked_answer}
 use Rattle.report_text.specs.Texts.{AreLabelled}
 
 by_test : {A : Type 0} (b : Bool) → (b ≡ true → A) → (b ≡ false → A) → A
@@ -54,13 +58,25 @@ module _ (checked : PlainChecked) (rows : PlainRows) where
       (generated-IsInRangeOf checked rows))
 
   pub best-labelled : (k measure : ℕ) (greatest : Bool)
-      → All (λ (entry : Entry). AreLabelled checked.labels entry.witness)
+      → All (λ (entry : Entry ℤ). AreLabelled checked.labels entry.witness)
       (map entry_of (best checked rows k greatest measure))
   best-labelled k measure greatest =
       let entries = map (answers.entry_of checked rows measure) (kept checked rows) in
       let P : (ℤ × List Mark) → Type 0 = λ e. AreLabelled checked.labels e.1 in
-      All-map (λ (entry : Entry). AreLabelled checked.labels entry.witness) entry_of
+      All-map (λ (entry : Entry ℤ). AreLabelled checked.labels entry.witness) entry_of
       (best checked rows k greatest measure)
       (All-take P k (ranked (before greatest) entries)
       (all_ranked P (before greatest) entries
       (All-map P (answers.entry_of checked rows measure) (kept checked rows) kept-labelled)))
+
+  pub ranked-labelled : (k : ℕ) (ranks : List Rank)
+      → All (λ (entry : Entry Lex). AreLabelled checked.labels entry.witness)
+      (map ranked_answer (best_ranked checked rows k ranks))
+  ranked-labelled k ranks =
+      let order = rank_before checked rows ranks in
+      let P : (List ℤ × List Mark) → Type 0 = λ e. AreLabelled checked.labels e.1 in
+      All-map (λ (entry : Entry Lex). AreLabelled checked.labels entry.witness) ranked_answer
+      (best_ranked checked rows k ranks)
+      (All-map P (ranked_entry checked rows ranks) (first_of order k (kept checked rows))
+      (All-take (AreLabelled checked.labels) k (ranked order (kept checked rows))
+      (all_ranked (AreLabelled checked.labels) order (kept checked rows) kept-labelled)))

@@ -20,7 +20,7 @@ use Rattle.gta_rows.specs.Table as rows
 use Rattle.report_text.specs.declared.refusal.Refusal.{Refusal}
 use Rattle.gta_job.specs.declared.job.JobEnd.{JobEnd}
 use Rattle.gta_job.specs.Ends.{Ends, Tells, end_of_checking, end_of_reading, end_of_table, refusal_in, told_by}
-use Rattle.gta_job.specs.Outcome.{built_specification, input_refusal, of_rows, specification, table_rows}
+use Rattle.gta_job.specs.Outcome.{input_refusal, of_rows, specification, table_rows}
 
 module _ {S T : Type 0} where
   -- a step that ends with a refusal ends all
@@ -112,17 +112,17 @@ module _ (told : PlainChecked → PlainRows → Result (List ℕ) Refusal) (byte
       (λ rows. told (resolved_of read.spec) rows)
 
   -- what is told of a job whose specification and rows have no refusal
-  pub of_rows-told : (read : ReadTree) (rows : PlainRows) → built_specification bytes ≡ Ok read
+  pub of_rows-told : (read : ReadTree) (rows : PlainRows) → specification bytes ≡ Ok read
       → table_rows (resolved_of read.spec) (drop read.rows_at bytes) ≡ Ok rows
       → of_rows told bytes ≡ told (resolved_of read.spec) rows
   of_rows-told read rows is_read are_rows =
       ap (λ step. and_then step rows_told) is_read
       ∙ ap (λ step. and_then step (λ rows. told (resolved_of read.spec) rows)) are_rows
 
-  pub of_spec-ends : (end : JobEnd) → Ends (built_specification bytes) end → Ends (of_rows told bytes) end
-  of_spec-ends end ends = then-ends (built_specification bytes) rows_told end ends
+  pub of_spec-ends : (end : JobEnd) → Ends (specification bytes) end → Ends (of_rows told bytes) end
+  of_spec-ends end ends = then-ends (specification bytes) rows_told end ends
 
-  pub of_table-ends : (read : ReadTree) (end : JobEnd) → built_specification bytes ≡ Ok read
+  pub of_table-ends : (read : ReadTree) (end : JobEnd) → specification bytes ≡ Ok read
       → Ends (table_rows (resolved_of read.spec) (drop read.rows_at bytes)) end → Ends (of_rows told bytes) end
   of_table-ends read end is_read ends =
       subst (λ outcome. Ends outcome end) (sym (ap (λ step. and_then step rows_told) is_read))

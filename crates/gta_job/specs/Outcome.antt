@@ -9,12 +9,10 @@ use Rattle.drill_texts.specs.Drills.{drill_text, heading}
 use Rattle.gta_words.specs.declared.words.Command.{Command}
 use Rattle.gta_words.specs.declared.words.Command.TheVariants.{Run, Show, List as ListKept, Drill}
 use Rattle.report_text.specs.declared.refusal.Refusal.{Refusal}
-use Rattle.report_text.specs.declared.refusal.Refusal.TheVariants.{Input, Negative, Heavy, ListSize, Unbuilt}
-use Rattle.report_text.specs.Texts.{list_text}
+use Rattle.report_text.specs.declared.refusal.Refusal.TheVariants.{Input, Negative, Heavy, ListSize}
+use Rattle.report_text.specs.Texts.{list_text, report_text}
 use Rattle.gta_canonical.specs.Canonical.{canonical}
 use Rattle.gta_spec.specs.SpecText.{first_version}
-use Rattle.gta_checked.specs.declared.resolved.Goal.{Goal}
-use Rattle.gta_checked.specs.declared.resolved.Goal.TheVariants as goals
 use Rattle.gta_checked.specs.PlainRows.{PlainRows}
 use Rattle.gta_checked.specs.Plain.{PlainChecked}
 use Rattle.gta_syntax.specs.Refusals.{ReadTree, spec_of}
@@ -27,7 +25,7 @@ use Rattle.test_homs.specs.declared.negatives.Negative.{Negative as FirstNegativ
 use Rattle.test_homs.specs.Negatives.{first_negative}
 use Rattle.gta_job.specs.declared.job.TheConstants.{FIRST_INPUT_LIMIT, INPUT_LIMIT}
 use Rattle.gta_job.specs.declared.listing.TheConstants.{CANDIDATE_LIMIT, MARK_LIMIT}
-use Rattle.gta_job.specs.Answers.{answer, answer_report}
+use Rattle.gta_job.specs.Answers.{answer}
 use Rattle.gta_job.specs.Ends.{end_of_checking, end_of_reading, end_of_table, told_by}
 use Rattle.gta_job.specs.Sizes.{keys_refusal, size_refusal}
 
@@ -53,22 +51,6 @@ specification bytes =
     and_then (told_by end_of_checking (checked_outcome read.spec)) (λ checked.
     Ok read)))
 
--- the refusal of an aggregate that isn't built yet: several totals, one after the other
-abbrev pub unbuilt_refusal : Goal → Option Refusal
-unbuilt_refusal goals.Count = None
-unbuilt_refusal goals.Any = None
-unbuilt_refusal (goals.Max measure) = None
-unbuilt_refusal (goals.Min measure) = None
-unbuilt_refusal (goals.Best k greatest measure) = None
-unbuilt_refusal (goals.Ranked k keys) = Some Unbuilt
-
--- the specification of a job that is run or listed
-abbrev pub built_specification : List ℕ → Result ReadTree Refusal
-built_specification bytes =
-    and_then (specification bytes) (λ read.
-    unless (unbuilt_refusal (resolved_of read.spec).goal)
-    (Ok read))
-
 -- the rows that the bytes of a table hold
 unfoldable pub table_rows : PlainChecked → List ℕ → Result PlainRows Refusal
 table_rows checked table = told_by end_of_table (table_outcome checked.version checked.columns table)
@@ -92,7 +74,7 @@ rows_report leaf checked rows =
     (unless (heavy_refusal checked rows)
     (unless (keys_refusal checked)
     (unless (size_refusal leaf checked rows)
-    (answer_report (answer checked rows) checked.labels))))
+    (Ok (report_text (answer checked rows) checked.labels)))))
 
 -- the refusal of generated candidates that are too many, or that have too many marks together, to be listed
 abbrev pub list_refusal : PlainChecked → PlainRows → Option Refusal
@@ -109,7 +91,7 @@ rows_list checked rows =
 -- what is told of the rows of a job: of its specification with names resolved, and of the table behind it
 abbrev pub of_rows : (PlainChecked → PlainRows → Result (List ℕ) Refusal) → List ℕ → Result (List ℕ) Refusal
 of_rows told bytes =
-    and_then (built_specification bytes) (λ read.
+    and_then (specification bytes) (λ read.
     and_then (table_rows (resolved_of read.spec) (drop read.rows_at bytes)) (λ rows.
     told (resolved_of read.spec) rows))
 

@@ -8,7 +8,7 @@ ghost use Rattle.gta_job.specs.Ends.{Tells};
 ghost use Rattle.gta_job.specs.Outcome.{outcome};
 
 use crate::rows_job::rows_report;
-use crate::steps::{built_spec, bytes_from, checked_spec, table_rows};
+use crate::steps::{bytes_from, checked_spec, table_rows};
 use fuse_answer::{Crew, Job};
 use gta_canonical::show_spec;
 use gta_rows::RowsFault;
@@ -193,7 +193,7 @@ pub fn answer_with<R: Threads + Sync, G: Gate + Sync>(
     requires few_leaf { leaf ≤ LEAF_LIMIT }
     ensures tells { Tells (λ text. text.items) (outcome (Run workers leaf) bytes.now) result }
 {
-    let (read, checked) = built_spec(alloc, bytes)?;
+    let (read, checked) = checked_spec(alloc, bytes)?;
     let rows = table_rows(alloc, &checked, bytes_from(bytes, read.rows_at))?;
     let crew = Crew {
         rt,

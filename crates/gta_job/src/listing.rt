@@ -12,7 +12,7 @@ ghost use Rattle.gta_job.specs.Outcome as outcomes;
 ghost use Rattle.gta_job.specs.Outcome.{list_refusal, outcome};
 
 use crate::job::JobEnd;
-use crate::steps::{built_spec, bytes_from, refuse_heavy, refuse_negative, table_rows};
+use crate::steps::{bytes_from, checked_spec, refuse_heavy, refuse_negative, table_rows};
 use fuse_answer::Job;
 use gta_meaning::{Candidate, ListFault, list_kept};
 use gta_text::Name;
@@ -29,7 +29,7 @@ pub const MARK_LIMIT: u64 = 4194304;
 pub fn list_job(alloc: Global, bytes: &[u8]) -> Result<Vec<u8>, JobEnd>
     ensures tells { Tells (λ text. text.items) (outcome ListKept bytes.now) result }
 {
-    let (read, checked) = built_spec(alloc, bytes)?;
+    let (read, checked) = checked_spec(alloc, bytes)?;
     let rows = table_rows(alloc, &checked, bytes_from(bytes, read.rows_at))?;
     rows_list(alloc, &Job { checked, rows })
 }

@@ -1,23 +1,25 @@
 //! A job: what refuses its rows, and the report of the answer. Its aggregates are listed here, each with its question.
 
-ghost use Rattle.std.specs.Prelude.{◌≡◌, None, Ok, Some, IfOk};
+ghost use Rattle.std.specs.Prelude.{◌≡◌, ◌≤◌, None, IfOk, length};
 ghost use Rattle.gta_checked.specs.PlainRows.{plain_rows};
+ghost use Rattle.gta_checked.specs.Within.{IsKeptWithin};
+ghost use Rattle.gta_checked.specs.declared.resolved.Goal.TheVariants as Goal;
 ghost use Rattle.test_homs.specs.Homs.{ArePrepared};
 ghost use Rattle.test_homs.specs.Negatives.{first_negative};
+ghost use Rattle.report_text.specs.Texts.{report_text};
 ghost use Rattle.gta_job.specs.Answers as answers;
 ghost use Rattle.gta_job.specs.Ends.{Passes, Tells};
 ghost use Rattle.gta_job.specs.Outcome as outcomes;
-ghost use Rattle.gta_job.specs.Outcome.{unbuilt_refusal};
 ghost use Rattle.gta_job.specs.Sizes.{keys_refusal, size_refusal};
 
 use crate::job::JobEnd;
 use crate::size::refuse_size;
 use crate::steps::{refuse_heavy, refuse_negative};
 use fuse_answer::{
-    BestOf, Crew, GreatestOf, HowMany, Job, LeastOf, PreparedJob, Question, Whether, answer_to,
-    lane_answer_to,
+    BestOf, BestRanked, BestTotals, Crew, GreatestOf, HowMany, Job, LeastOf, PreparedJob, Question,
+    Ranks, Whether, answer_to, lane_answer_to,
 };
-use gta_checked::Goal;
+use gta_checked::{Goal, Rank};
 use lane_rows::Lanes;
 use report_text::{Answer, Refusal, report};
 use std::alloc::Global;
@@ -30,7 +32,6 @@ pub(crate) fn rows_report<R: Threads + Sync, G: Gate + Sync>(
     crew: &Crew<R, G>,
     job: Job,
 ) -> Result<Vec<u8>, JobEnd>
-    requires built { unbuilt_refusal job.checked.goal ≡ None }
     ensures tells { let report = outcomes.rows_report crew.now.leaf job.checked (plain_rows job.rows) in
         Tells (λ text. text.items) report result }
 {
@@ -59,12 +60,11 @@ fn answer_report<R: Threads + Sync, G: Gate + Sync>(
     crew: &Crew<R, G>,
     prepared: &PreparedJob,
 ) -> Result<Vec<u8>, JobEnd>
-    requires built { unbuilt_refusal prepared.now.job.checked.goal ≡ None }
     ensures passes { let job = prepared.now.job in
         Passes (size_refusal crew.now.leaf job.checked (plain_rows job.rows)) result }
     ensures text { let job = prepared.now.job in
-        IfOk result (λ text. Ok text.items
-        ≡ answers.answer_report (answers.answer job.checked (plain_rows job.rows)) job.checked.labels) }
+        let answer = answers.answer job.checked (plain_rows job.rows) in
+        IfOk result (λ text. text.items ≡ report_text answer job.checked.labels) }
 {
     let answer = answer_of(crew, prepared)?;
     Ok(report(crew.alloc, &answer, prepared.job.checked.labels())?)
@@ -75,11 +75,10 @@ fn answer_of<R: Threads + Sync, G: Gate + Sync>(
     crew: &Crew<R, G>,
     prepared: &PreparedJob,
 ) -> Result<Answer, JobEnd>
-    requires built { unbuilt_refusal prepared.now.job.checked.goal ≡ None }
     ensures passes { let job = prepared.now.job in
         Passes (size_refusal crew.now.leaf job.checked (plain_rows job.rows)) result }
     ensures answer { let job = prepared.now.job in
-        IfOk result (λ answer. Some answer ≡ answers.answer job.checked (plain_rows job.rows)) }
+        IfOk result (λ answer. answer ≡ answers.answer job.checked (plain_rows job.rows)) }
 {
     match prepared.job.checked.goal() {
         Goal::Count => Ok(Answer::Count(lane_asked(crew, prepared, &HowMany)?)),
@@ -104,7 +103,37 @@ fn answer_of<R: Threads + Sync, G: Gate + Sync>(
             };
             Ok(Answer::Best(asked(crew, prepared, &question)?))
         }
-        Goal::Ranked { .. } => unreachable!(),
+        Goal::Ranked { k, keys } => ranked_answer(crew, prepared, *k, keys.as_slice()),
+    }
+}
+
+/// The answer by several totals, or the refusal of a job that is too large.
+fn ranked_answer<R: Threads + Sync, G: Gate + Sync>(
+    crew: &Crew<R, G>,
+    prepared: &PreparedJob,
+    k: Option<u32>,
+    keys: &[Rank],
+) -> Result<Answer, JobEnd>
+    requires asked { prepared.now.job.checked.goal ≡ Goal.Ranked k keys.now }
+    requires several { 2 ≤ length keys.now }
+    requires few { length keys.now ≤ 3 }
+    requires kept { IsKeptWithin k }
+    ensures passes { let job = prepared.now.job in
+        Passes (size_refusal crew.now.leaf job.checked (plain_rows job.rows)) result }
+    ensures answer { let job = prepared.now.job in
+        IfOk result (λ answer. answer ≡ answers.answer job.checked (plain_rows job.rows)) }
+{
+    let parts = keys.len() as u32;
+    let ranks = Ranks::of(keys);
+    match k {
+        None => {
+            let totals = asked(crew, prepared, &BestTotals { ranks })?;
+            Ok(Answer::Totals { parts, totals })
+        }
+        Some(k) => {
+            let best = asked(crew, prepared, &BestRanked { k, ranks })?;
+            Ok(Answer::RankedBest { parts, best })
+        }
     }
 }
 

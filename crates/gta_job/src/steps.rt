@@ -1,6 +1,6 @@
 //! The steps from bytes to rows that commands share, in the order in which they stop at a refusal.
 
-ghost use Rattle.std.specs.Prelude.{◌≡◌, ◌≤◌, None, drop, length, slice_get, IfOk, OnOk};
+ghost use Rattle.std.specs.Prelude.{◌≡◌, ◌≤◌, drop, length, slice_get, IfOk, OnOk};
 ghost use Rattle.gta_spec.specs.Parts.{spec_tree};
 ghost use Rattle.gta_spec.specs.WellFormed.{IsWellFormed};
 ghost use Rattle.gta_spec.specs.declared.limits.TheConstants.{ROW_LIMIT};
@@ -11,12 +11,11 @@ ghost use Rattle.gta_meaning.specs.InRange.{HasColumnsOf};
 ghost use Rattle.report_text.specs.declared.refusal.Refusal.TheVariants as Refusal;
 ghost use Rattle.gta_job.specs.Ends.{Passes, Tells};
 ghost use Rattle.gta_job.specs.Outcome as outcomes;
-ghost use Rattle.gta_job.specs.Outcome.{built_specification, heavy_refusal, input_refusal, negative_of};
-ghost use Rattle.gta_job.specs.Outcome.{negative_refusal, specification, unbuilt_refusal};
+ghost use Rattle.gta_job.specs.Outcome.{heavy_refusal, input_refusal, negative_of, negative_refusal, specification};
 ghost use Rattle.gta_job.specs.declared.job.TheConstants.{INPUT_LIMIT};
 
 use crate::job::{FIRST_INPUT_LIMIT, INPUT_LIMIT, JobEnd};
-use gta_checked::{Checked, Goal, Rows};
+use gta_checked::{Checked, Rows};
 use gta_meaning::first_heavy;
 use gta_rows::read_rows;
 use gta_syntax::{Read, first_version, read_spec};
@@ -72,28 +71,6 @@ pub(crate) fn checked_spec(alloc: Global, bytes: &[u8]) -> Result<(Read, Checked
     let read = read_spec(alloc, bytes)?;
     let checked = check(alloc, &read.spec)?;
     Ok((read, checked))
-}
-
-/// The same for a job that is run or listed: it may not ask for what isn't built.
-pub(crate) fn built_spec(alloc: Global, bytes: &[u8]) -> Result<(Read, Checked), JobEnd>
-    ensures tells { Tells (λ taken. read_tree taken.0) (built_specification bytes.now) result }
-    ensures within { OnOk result (length bytes.now ≤ INPUT_LIMIT) }
-    ensures resolved { IfOk result (λ taken. taken.1 ≡ resolved_of (spec_tree taken.0.spec)) }
-    ensures built { IfOk result (λ taken. unbuilt_refusal taken.1.goal ≡ None) }
-{
-    let (read, checked) = checked_spec(alloc, bytes)?;
-    refuse_unbuilt(&checked)?;
-    Ok((read, checked))
-}
-
-/// Refuses an aggregate that isn't built yet.
-fn refuse_unbuilt(checked: &Checked) -> Result<(), JobEnd>
-    ensures passes { Passes (unbuilt_refusal checked.now.goal) result }
-{
-    match checked.goal() {
-        Goal::Ranked { .. } => Err(JobEnd::Refused(Refusal::Unbuilt)),
-        _ => Ok(()),
-    }
 }
 
 /// The bytes from this place on, none where the place is past their end.

@@ -1,6 +1,7 @@
 //! A candidate as a list of marks.
 
 ghost use Rattle.std.specs.Prelude.{◌≡◌};
+ghost use Rattle.gta_checked.specs.Within.{IsWithinLimits};
 ghost use Rattle.gta_meaning.specs.InRange as in_range;
 
 use gta_checked::Checked;
@@ -14,7 +15,8 @@ pub struct Candidate {
 
 /// How many labels a mark may have: 1 where none are declared. Takes no memory.
 pub fn label_count(checked: &Checked) -> u32
-    ensures { result ≡ in_range.label_count checked.now }
+    ensures labels { result ≡ in_range.label_count checked.now }
+    ensures within { IsWithinLimits checked.now }
 {
     checked.labels().len().max(1) as u32
 }

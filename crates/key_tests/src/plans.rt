@@ -1,7 +1,7 @@
 //! Worked answers of every shape, by one leaf and by cuts into three, over sums with a bound and over a monoid in which
 //! factors may not change places.
 
-ghost use Rattle.std.specs.Prelude.{◌≡◌, ◌⊎◌, ℕ, ◌+◌, ◌*◌, ◌<◌, ◌≤◌, length, IfOk};
+ghost use Rattle.std.specs.Prelude.{◌≡◌, ◌⊎◌, ℕ, ◌+◌, ◌*◌, ◌<◌, ◌≤◌, length, IfOk, ℤ, unsigned_abs};
 ghost use Rattle.step_count.specs.Blanks.{IsBlankOf};
 ghost use Rattle.monoid_kit.specs.Items.{AllElements};
 ghost use Rattle.semiring_kit.specs.Semiring.{IsGood};
@@ -56,13 +56,14 @@ impl Monoid for ZeroBand {
 }
 
 // A letter for each value and weight. Its key is the value, or the greatest key where the value is greater.
-fn letters_of<S: Semiring>(
+fn letters_of<S: Semiring<Weight = i64>>(
     alloc: Global,
     kit: &S,
     size: u32,
     marks: &[(u32, i16)],
 ) -> Result<Vec<Letter<S::Elem>>, AllocError>
     requires some_key { 1 ≤ size }
+    requires plain { (weight : ℤ) → S.weight_reach kit.now weight ≤ unsigned_abs weight }
     ensures count { IfOk result (λ letters. length letters.items ≡ length marks.now) }
     ensures keys { IfOk result (λ letters. AllElements (λ key. key < size) (λ letter. letter.key) letters.items) }
     ensures good { let ring = S.ring kit.now in
@@ -83,7 +84,7 @@ fn letters_of<S: Semiring>(
 }
 
 // The plan of a shape over maps of slots. Marks stand by row, and then by label.
-fn plan_over<S: Semiring, M: Monoid>(
+fn plan_over<S: Semiring<Weight = i64>, M: Monoid>(
     alloc: Global,
     shape: Shape,
     rows: u32,
@@ -95,6 +96,7 @@ fn plan_over<S: Semiring, M: Monoid>(
     requires some_label { 1 ≤ labels }
     requires one_label { (shape ≡ Assign) ⊎ (labels ≡ 1) }
     requires count { length marks.now ≡ rows * labels }
+    requires plain { (weight : ℤ) → S.weight_reach kit weight ≤ unsigned_abs weight }
     ensures kit { IfOk result (λ plan. plan.kit.keys ≡ keys) }
     ensures rows { IfOk result (λ plan. plan.rows ≡ rows) }
 {

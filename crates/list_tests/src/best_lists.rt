@@ -1,6 +1,6 @@
 //! Worked sums and products, through the trait. The functions that make them serve lists of any entries.
 
-ghost use Rattle.std.specs.Prelude.{◌≡◌, ◌<◌, ◌≤◌, IfOk};
+ghost use Rattle.std.specs.Prelude.{◌≡◌, ◌<◌, ◌≤◌, ℤ, unsigned_abs, IfOk};
 ghost use Rattle.step_count.specs.Blanks.{IsBlankOf};
 ghost use Rattle.semiring_kit.specs.Semiring.{IsGood};
 
@@ -18,12 +18,13 @@ use step_count::Steps;
 const MOST: usize = 8;
 
 // The product of marks, which have these rows and weights.
-fn candidate<S: Semiring, L: Ledger>(
+fn candidate<S: Semiring<Weight = i64>, L: Ledger>(
     kit: &S,
     alloc: Global,
     marks: &[(u32, i32)],
     steps: &mut Steps<L>,
 ) -> Result<S::Elem, AllocError>
+    requires plain { (weight : ℤ) → S.weight_reach kit.now weight ≤ unsigned_abs weight }
     ensures { IfOk result (IsGood (S.ring kit.now)) }
 {
     let mut product = kit.one(alloc)?;
@@ -42,12 +43,13 @@ fn candidate<S: Semiring, L: Ledger>(
 }
 
 // The sum of the candidates.
-pub(crate) fn sum_of_candidates<S: Semiring, L: Ledger>(
+pub(crate) fn sum_of_candidates<S: Semiring<Weight = i64>, L: Ledger>(
     kit: &S,
     alloc: Global,
     candidates: &[&[(u32, i32)]],
     blank: Blank,
 ) -> Result<S::Elem, AllocError>
+    requires plain { (weight : ℤ) → S.weight_reach kit.now weight ≤ unsigned_abs weight }
     requires blank { IsBlankOf L.name L.parts blank }
 {
     let mut steps = Steps::<L>::new(blank);
@@ -60,7 +62,13 @@ pub(crate) fn sum_of_candidates<S: Semiring, L: Ledger>(
 }
 
 // A choice of nothing or of the row, at this weight.
-fn choice<S: Semiring>(kit: &S, alloc: Global, row: u32, weight: i32) -> Result<S::Elem, AllocError>
+fn choice<S: Semiring<Weight = i64>>(
+    kit: &S,
+    alloc: Global,
+    row: u32,
+    weight: i32,
+) -> Result<S::Elem, AllocError>
+    requires plain { (weight : ℤ) → S.weight_reach kit.now weight ≤ unsigned_abs weight }
     ensures sound { IfOk result (S.ring kit.now).is_sound }
     ensures light { IfOk result (λ elem. (S.ring kit.now).reach elem ≤ 2147483648) }
 {
@@ -70,12 +78,14 @@ fn choice<S: Semiring>(kit: &S, alloc: Global, row: u32, weight: i32) -> Result<
 }
 
 // The product of the choices of rows, at these weights.
-fn product_of_choices<S: Semiring, L: Ledger>(
+fn product_of_choices<S: Semiring<Weight = i64>, L: Ledger>(
     kit: &S,
     alloc: Global,
     weights: &[i32],
     steps: &mut Steps<L>,
-) -> Result<S::Elem, AllocError> {
+) -> Result<S::Elem, AllocError>
+    requires plain { (weight : ℤ) → S.weight_reach kit.now weight ≤ unsigned_abs weight }
+{
     let mut product = kit.one(alloc)?;
     if weights.len() > MOST {
         return Ok(product);
@@ -90,12 +100,13 @@ fn product_of_choices<S: Semiring, L: Ledger>(
 }
 
 // The product over rows, of which each is left or taken, at these weights.
-pub(crate) fn sublists<S: Semiring, L: Ledger>(
+pub(crate) fn sublists<S: Semiring<Weight = i64>, L: Ledger>(
     kit: &S,
     alloc: Global,
     weights: &[i32],
     blank: Blank,
 ) -> Result<S::Elem, AllocError>
+    requires plain { (weight : ℤ) → S.weight_reach kit.now weight ≤ unsigned_abs weight }
     requires blank { IsBlankOf L.name L.parts blank }
 {
     let mut steps = Steps::<L>::new(blank);
@@ -116,7 +127,7 @@ fn are_rows(marks: &[Mark], expected: &[u32]) -> bool {
 }
 
 // The totals and the rows of the entries are these.
-fn are_entries(entries: &[Entry], expected: &[(i64, &[u32])]) -> bool {
+fn are_entries(entries: &[Entry<i64>], expected: &[(i64, &[u32])]) -> bool {
     if entries.len() != expected.len() {
         return false;
     }
@@ -129,7 +140,7 @@ fn are_entries(entries: &[Entry], expected: &[(i64, &[u32])]) -> bool {
 }
 
 // The totals and the rows of the entries are these.
-pub(crate) fn assert_answer(rt: &impl Abort, best: &Best, expected: &[(i64, &[u32])]) {
+pub(crate) fn assert_answer(rt: &impl Abort, best: &Best<i64>, expected: &[(i64, &[u32])]) {
     assert!(rt;
         are_entries(best.entries(), expected),
         "{best:?} is not {expected:?}"
@@ -193,8 +204,8 @@ fn the_first_of_some_candidates(rt: HostRuntime) -> Result<(), Fail> {
     let alloc = rt.alloc();
     for (k, greatest, candidates, expected) in CANDIDATES {
         assert!(rt; 1 <= k && k <= 64);
-        let kit = BestK { k, greatest };
-        let best = sum_of_candidates::<BestK, Brand>(&kit, alloc, candidates, Blank::new(1))?;
+        let kit = BestK::<i64>::of(k, greatest);
+        let best = sum_of_candidates::<BestK<i64>, Brand>(&kit, alloc, candidates, Blank::new(1))?;
         assert_answer(&rt, &best, expected);
     }
     Ok(())
@@ -205,8 +216,8 @@ fn the_first_of_all_sublists(rt: HostRuntime) -> Result<(), Fail> {
     let alloc = rt.alloc();
     for (k, greatest, weights, expected) in SUBLISTS {
         assert!(rt; 1 <= k && k <= 64);
-        let kit = BestK { k, greatest };
-        let best = sublists::<BestK, Brand>(&kit, alloc, weights, Blank::new(1))?;
+        let kit = BestK::<i64>::of(k, greatest);
+        let best = sublists::<BestK<i64>, Brand>(&kit, alloc, weights, Blank::new(1))?;
         assert_answer(&rt, &best, expected);
     }
     Ok(())

@@ -258,9 +258,9 @@ fn the_first_of_some_candidates_over_runs(rt: HostRuntime) -> Result<(), Fail> {
     let alloc = rt.alloc();
     for (k, greatest, candidates, expected) in CANDIDATES {
         assert!(rt; 1 <= k && k <= 64);
-        let ranked = RunsByTotal { greatest };
+        let ranked = RunsByTotal::<i64>::of(greatest);
         let kit = FirstK { ranked, k };
-        let firsts = sum_of_candidates::<FirstK<RunsByTotal>, Brand>(
+        let firsts = sum_of_candidates::<FirstK<RunsByTotal<i64>>, Brand>(
             &kit,
             alloc,
             candidates,
@@ -277,9 +277,14 @@ fn the_first_of_all_sublists_over_runs(rt: HostRuntime) -> Result<(), Fail> {
     let alloc = rt.alloc();
     for (k, greatest, weights, expected) in SUBLISTS {
         assert!(rt; 1 <= k && k <= 64);
-        let ranked = RunsByTotal { greatest };
+        let ranked = RunsByTotal::<i64>::of(greatest);
         let kit = FirstK { ranked, k };
-        let firsts = sublists::<FirstK<RunsByTotal>, Brand>(&kit, alloc, weights, Blank::new(1))?;
+        let firsts = sublists::<FirstK<RunsByTotal<i64>>, Brand>(
+            &kit,
+            alloc,
+            weights,
+            Blank::new(1),
+        )?;
         let best = listed(alloc, &firsts)?;
         assert_answer(&rt, &best, expected);
     }
@@ -288,6 +293,6 @@ fn the_first_of_all_sublists_over_runs(rt: HostRuntime) -> Result<(), Fail> {
 
 #[test]
 fn the_laws_of_sums(_rt: HostRuntime) {
-    best_sums_are_aggregates();
-    run_sums_are_aggregates();
+    best_sums_are_aggregates::<i64>();
+    run_sums_are_aggregates::<i64>();
 }

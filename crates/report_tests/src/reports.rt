@@ -6,6 +6,7 @@ ghost use Rattle.std.specs.List.{All};
 use best_k::{Best, Entry};
 use gta_text::Name;
 use report_text::{Answer, Refusal, fault_line, report};
+use semiring_kit::Lex;
 use shape_gen::Mark;
 use std::alloc::{AllocError, Global};
 use std::fmt::Write;
@@ -153,7 +154,7 @@ fn faults_of_rows(rt: HostRuntime) -> Result<(), Fail> {
     let missing = Name::of(rt.alloc(), b"v")?;
     let twice = Name::of(rt.alloc(), b"v")?;
     let column = Name::of(rt.alloc(), b"price")?;
-    let cases: [(Refusal, &[u8]); 7] = [
+    let cases: [(Refusal, &[u8]); 6] = [
         (Refusal::NoHeader, b"refused 31: no header\n"),
         (
             Refusal::ColumnMissing { column: missing },
@@ -179,7 +180,6 @@ fn faults_of_rows(rt: HostRuntime) -> Result<(), Fail> {
             Refusal::TooMany { limit: 100000 },
             b"refused 36: more than 100000 rows\n",
         ),
-        (Refusal::Unbuilt, b"refused 1: not built yet\n"),
     ];
     for (refusal, line) in cases {
         let said = fault_line(rt.alloc(), &refusal)?;
@@ -247,7 +247,12 @@ fn faults_of_numbers(rt: HostRuntime) -> Result<(), Fail> {
 
 #[test]
 fn reports(rt: HostRuntime) -> Result<(), Fail> {
-    let cases: [(Answer, &[u8]); 8] = [
+    let totals = Lex {
+        first: 6,
+        second: -3,
+        third: 1,
+    };
+    let cases: [(Answer, &[u8]); 11] = [
         (Answer::Count(0), b"answer 0\n"),
         (
             Answer::Count(18446744073709551614),
@@ -265,6 +270,27 @@ fn reports(rt: HostRuntime) -> Result<(), Fail> {
         ),
         (Answer::Total(Some(-7)), b"answer -7\n"),
         (Answer::Total(None), b"answer none\n"),
+        (
+            Answer::Totals {
+                parts: 2,
+                totals: Some(totals),
+            },
+            b"answer 6 -3\n",
+        ),
+        (
+            Answer::Totals {
+                parts: 3,
+                totals: Some(totals),
+            },
+            b"answer 6 -3 1\n",
+        ),
+        (
+            Answer::Totals {
+                parts: 2,
+                totals: None,
+            },
+            b"answer none\n",
+        ),
     ];
     for (answer, text) in cases {
         let said = report(rt.alloc(), &answer, &[])?;
@@ -274,7 +300,12 @@ fn reports(rt: HostRuntime) -> Result<(), Fail> {
 }
 
 // The entry of these rows, which all have this label.
-fn entry_of(alloc: Global, total: i64, rows: &[u32], label: u32) -> Result<Entry, AllocError>
+fn entry_of<W: Copy>(
+    alloc: Global,
+    total: W,
+    rows: &[u32],
+    label: u32,
+) -> Result<Entry<W>, AllocError>
     requires { label < 2 }
     ensures { IfOk result (λ entry. All (λ mark. mark.label < 2) entry.witness) }
 {
@@ -324,5 +355,29 @@ fn best_with_labels(rt: HostRuntime) -> Result<(), Fail> {
     let said = report(alloc, &Answer::Best(Best::of(entries)), &labels)?;
     let text: &[u8] = b"answer 2\n1 6 1:A 2:A 3:A\n2 5 1:B\n";
     assert_eq!(rt; said.as_slice(), text);
+    Ok(())
+}
+
+#[test]
+fn best_by_several_totals(rt: HostRuntime) -> Result<(), Fail> {
+    let alloc = rt.alloc();
+    let totals = Lex {
+        first: 6,
+        second: 0,
+        third: -4611686018427387903,
+    };
+    let cases: [(u32, &[u8]); 2] = [
+        (2, b"answer 1\n1 6 0 1:A 3:A\n"),
+        (3, b"answer 1\n1 6 0 -4611686018427387903 1:A 3:A\n"),
+    ];
+    for (parts, text) in cases {
+        let labels = [Name::of(alloc, b"A")?, Name::of(alloc, b"B")?];
+        let mut entries = Vec::new(alloc);
+        let entry = entry_of(alloc, totals, &[0, 2], 0)?;
+        entries.push(entry)?;
+        let best = Best::of(entries);
+        let said = report(alloc, &Answer::RankedBest { parts, best }, &labels)?;
+        assert_eq!(rt; said.as_slice(), text);
+    }
     Ok(())
 }

@@ -1,6 +1,6 @@
 //! Worked tables, and sums and products through the trait.
 
-ghost use Rattle.std.specs.Prelude.{◌≡◌, ◌+◌, ◌*◌, ◌<◌, ◌≤◌, All, IsTrue, length};
+ghost use Rattle.std.specs.Prelude.{◌≡◌, ◌+◌, ◌*◌, ◌<◌, ◌≤◌, All, IsTrue, length, ℤ, unsigned_abs};
 ghost use Rattle.semiring_kit.specs.Semiring.{IsGood, weight_bound};
 ghost use Rattle.table_semiring.specs.Table.{IsRaw};
 ghost use Rattle.table_semiring.specs.TableOf.{plain_raw};
@@ -189,11 +189,13 @@ fn combined<S: Semiring, L: Ledger>(
 }
 
 // The zero, the one and the element of the first row at a weight.
-fn constants<S: Semiring>(
+fn constants<S: Semiring<Weight = i64>>(
     kit: &S,
     alloc: Global,
     weight: i32,
-) -> Result<(S::Elem, S::Elem, S::Elem), AllocError> {
+) -> Result<(S::Elem, S::Elem, S::Elem), AllocError>
+    requires plain { (weight : ℤ) → S.weight_reach kit.now weight ≤ unsigned_abs weight }
+{
     let mark = Mark { row: 0, label: 0 };
     Ok((
         kit.zero(alloc)?,

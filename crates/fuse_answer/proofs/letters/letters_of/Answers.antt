@@ -19,11 +19,11 @@ of_mark-requires g c =
     let in_range = mark_at-in_range rows.count labels c.loop-place.place c.loop-place-test.true in
     let reach = g.Q.Kit.Semiring.weight_reach (g.Q.Question.kit c.args.question.now) in
     let near = g.met.Q.Question.weight_within c.args.question.now checked rows measures c.requires.weighed m
-    (rw (← c.label_count-labels.ensures) in_range.label) in
+    (rw (← c.label_count-labels.ensures.labels) in_range.label) in
     let row = row-light checked rows measures c.args.prepared.now.light m.row in_range.row in
     let within : reach (g.Q.Question.weight c.args.question.now checked rows m) ≤ weight_bound =
     omega (arith, near, row) in
-    rw (c.kit.ensures, c.weight.ensures) within
+    rw (c.kit-kit.ensures, c.weight-weight.ensures) within
 
 pub loop-place-preserved : goal.loop-place-preserved
 loop-place-preserved g c =
@@ -36,5 +36,5 @@ loop-place-preserved g c =
     ∙ letters-more of_mark weight c.args.keys.now labels c.loop-place.place c.loop-place.letters.items _
     c.loop-place.invariant
     (letter-is of_mark weight c.args.keys.now labels c.loop-place.place c.label_count-labels.result
-    c.weight.result c.in_ok-elem.elem c.label_count-labels.ensures
-    (rw c.kit.ensures at c.in_ok-elem.ensures) c.weight.ensures)
+    c.weight-weight.result c.in_ok-elem.elem c.label_count-labels.ensures.labels
+    (rw c.kit-kit.ensures at c.in_ok-elem.ensures) c.weight-weight.ensures)

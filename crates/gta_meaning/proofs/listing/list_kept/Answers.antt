@@ -16,11 +16,11 @@ pub passes_by-requires-clause-in_range : goal.passes_by-requires-clause-in_range
 passes_by-requires-clause-in_range c =
     let checked = c.args.checked.now in
     let rows = plain_rows c.args.rows.now in
-    let whole = rw (c.shape-shape.ensures.shape, c.label_count-labels.ensures) at c.sizes-extent.ensures.candidates in
+    let whole = rw (c.shape-shape.ensures.shape, c.label_count-labels.ensures.labels) at c.sizes-extent.ensures.candidates in
     let below : c.loop-number.number < length (generated checked rows) = omega
     (arith, whole, c.loop-number-test.true) in
     let same : c.in_ok-candidate.candidate.marks.items ≡ get_or (generated checked rows) c.loop-number.number [] =
-    rw (c.shape-shape.ensures.shape, c.label_count-labels.ensures) at c.in_ok-candidate.ensures in
+    rw (c.shape-shape.ensures.shape, c.label_count-labels.ensures.labels) at c.in_ok-candidate.ensures in
     subst (IsInRangeOf checked rows) (sym same) (generated-IsInRangeOf checked rows c.loop-number.number [] below)
 
 pub loop-number-preserved : goal.loop-number-preserved
@@ -29,10 +29,10 @@ loop-number-preserved c =
     let rows = plain_rows c.args.rows.now in
     let all = generated checked rows in
     let i = c.loop-number.number in
-    let whole = rw (c.shape-shape.ensures.shape, c.label_count-labels.ensures) at c.sizes-extent.ensures.candidates in
+    let whole = rw (c.shape-shape.ensures.shape, c.label_count-labels.ensures.labels) at c.sizes-extent.ensures.candidates in
     let below : i < length all = omega (arith, whole, c.loop-number-test.true) in
     let same : c.in_ok-candidate.candidate.marks.items ≡ get_or all i [] =
-    rw (c.shape-shape.ensures.shape, c.label_count-labels.ensures) at c.in_ok-candidate.ensures in
+    rw (c.shape-shape.ensures.shape, c.label_count-labels.ensures.labels) at c.in_ok-candidate.ensures in
     let answer = c.passes_by.ensures ∙ ap (passes checked rows) same in
     elim c.if-passes_by.branch [
       | then-passes_by+in_ok-push w ↦

@@ -69,6 +69,10 @@ loop-value-preserved g c =
     let new = c.push.new.self.items in
     let is = c.in_ok-push.ensures.items in
     let fits : SFits w64 c.from.result = rw c.from.ensures (search rules) in
+    let reach = λ (mark : Mark) (weight : ℤ).
+    let near = g.met.S.Semiring.mark_reach c.args.kit.now mark weight in
+    let plain = c.requires.plain weight in
+    omega (arith, near, plain) in
     let small : unsigned_abs c.from.result ≤ 32768 = rw c.from.ensures (omega (arith, ints)) in
     record {
       count = let count = c.loop-value.invariant.count in let long = c.in_ok-push.ensures.len in search rules;
@@ -76,11 +80,11 @@ loop-value-preserved g c =
           (let least = c.min.ensures in search rules);
       good = more (IsGood r) (λ letter. letter.elem) old new _ is c.loop-value.invariant.good
           (mark-good r (g.S.Semiring.of_mark c.args.kit.now) (g.met.S.Semiring.mark_is_sound c.args.kit.now)
-          (g.met.S.Semiring.mark_reach c.args.kit.now)
+          reach
           c.in_ok-elem.elem _ c.from.result fits c.in_ok-elem.ensures small);
       near = more (λ elem. r.reach elem ≤ 32768) (λ letter. letter.elem) old new _ is c.loop-value.invariant.near
           (mark-near r (g.S.Semiring.of_mark c.args.kit.now) (g.met.S.Semiring.mark_is_sound c.args.kit.now)
-          (g.met.S.Semiring.mark_reach c.args.kit.now)
+          reach
           c.in_ok-elem.elem _ c.from.result fits c.in_ok-elem.ensures small);
     }
 

@@ -1,5 +1,5 @@
 -- Both entries have labels below 2.
-use Rattle.std.proofs.Common.{◌≡◌, ◌<◌, [], ◌∷◌, ◌++◌, sym, ap, subst, ◌∙◌}
+use Rattle.std.proofs.Common.{◌≡◌, ◌<◌, ℤ, [], ◌∷◌, ◌++◌, sym, ap, subst, ◌∙◌}
 use Rattle.std.specs.List.{All}
 use Rattle.std.proofs.lemmas.List.Elements.{All-nil, All-push}
 use Rattle.shape_gen.specs.declared.mark.Mark.{Mark}
@@ -8,7 +8,7 @@ use Rattle.report_tests.proofs.reports.best_with_labels.Goals as goal
 
 pub report-requires : goal.report-requires
 report-requires g c =
-    let labelled : Entry → Type 0 = λ e. 0 < 2 → All (λ (m : Mark). m.label < 2) e.witness in
+    let labelled : Entry ℤ → Type 0 = λ e. 0 < 2 → All (λ (m : Mark). m.label < 2) e.witness in
     let first = c.in_ok-first.first in
     let second = c.in_ok-second.second in
     let is : c.of-3.result ≡ ([] ++ first ∷ []) ++ second ∷ [] =

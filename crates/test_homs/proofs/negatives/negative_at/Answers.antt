@@ -15,10 +15,10 @@ returns-then-value-lt0 c =
     λ v. record { test = c.args.test; row = c.args.row; label = c.loop-label.label; value = v } in
     ap (λ v. Some (negative v)) same
     ∙ sym (negative-first c.args.checked.now (plain_rows c.args.rows.now) c.args.test c.args.measure c.args.row
-    c.loop-label.label (omega (arith, c.loop-label-test.true, c.label_count-label-end.ensures))
+    c.loop-label.label (omega (arith, c.loop-label-test.true, c.label_count-label-end.ensures.labels))
     c.loop-label.invariant (subst (λ (v : ℤ). int_lt v (pos 0) ≡ true) same c.if-value-lt0.true))
 
 pub returns : goal.returns
 returns c =
     sym (negative-nowhere c.args.checked.now (plain_rows c.args.rows.now) c.args.test c.args.measure c.args.row
-    (λ k below. c.loop-label.invariant k (omega (arith, c.loop-label-test.false, c.label_count-label-end.ensures))))
+    (λ k below. c.loop-label.invariant k (omega (arith, c.loop-label-test.false, c.label_count-label-end.ensures.labels))))

@@ -27,7 +27,7 @@ tests_in-requires-clause-joinable c =
     subst (λ (tests : List Prepared). AreJoinable (rows.count * c.label_count-labels.result) (map plain_prepared tests))
     (sym c.deref-in-Ok.ensures.value)
     (subst (λ (labels : ℕ). AreJoinable (rows.count * labels) (map plain_prepared c.put_in_order.new.tests.items))
-    (sym c.label_count-labels.ensures) (its_tests-AreJoinable checked rows c.first_negative.ensures.within none _ its))
+    (sym c.label_count-labels.ensures.labels) (its_tests-AreJoinable checked rows c.first_negative.ensures.within none _ its))
 
 pub tests_in-requires-clause-whole : goal.tests_in-requires-clause-whole
 tests_in-requires-clause-whole c =
@@ -61,7 +61,7 @@ returns-in-Ok-clause-prepared c =
     let made : c.in_ok-tests_in-in-Ok.field-0 ≡ joined_tests checked rows tests =
     c.in_ok-tests_in-in-Ok.ensures
     ∙ ap (joined checked (rows.count * labels) labels) (ap (map plain_prepared) c.deref-in-Ok.ensures.value)
-    ∙ ap (λ n. joined checked (rows.count * n) n tests) c.label_count-labels.ensures in
+    ∙ ap (λ n. joined checked (rows.count * n) n tests) c.label_count-labels.ensures.labels in
     subst (ArePrepared checked rows) (sym made)
     (its_tests-ArePrepared checked rows c.first_negative.ensures.within none tests its)
 

@@ -1,0 +1,9 @@
+-- Two proofs of one bound are equal.
+use Rattle.std.proofs.Math.Bridge.{le_prop}
+use Rattle.fuse_answer.proofs.best_ranked.BestRankedQuestion.kit.Goals as goal
+
+pub returns : goal.returns
+returns c =
+    let some = le_prop c.result-1.given.0 c.args.self.now.some_kept in
+    let few = le_prop c.result-1.given.1.0 c.args.self.now.few_kept in
+    cc (some, few)
