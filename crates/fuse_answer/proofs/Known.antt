@@ -1,5 +1,5 @@
 -- The measures of an aggregate are declared.
-use Rattle.std.proofs.Common.{◌≡◌, ℕ, suc, ◌<◌, List, [], ◌∷◌, length, Option, inl, inr, subst, sym, All, arith}
+use Rattle.std.proofs.Common.{ℕ, suc, ◌<◌, List, [], ◌∷◌, length, inl, inr, subst, sym, All, arith}
 use Rattle.monoid_kit.specs.Items.{IsIn}
 use Rattle.gta_checked.specs.Plain.{PlainChecked}
 use Rattle.gta_checked.specs.Within.{IsGoalWithin, IsWithinLimits}
@@ -28,7 +28,7 @@ goal-below measures Count measure within m_in = absurd m_in
 goal-below measures Any measure within m_in = absurd m_in
 goal-below measures (Max m) measure within m_in = only-below measures m measure within m_in
 goal-below measures (Min m) measure within m_in = only-below measures m measure within m_in
-goal-below measures (Best k greatest m) measure within m_in = only-below measures m measure within.1.1 m_in
+goal-below measures (Best k greatest m) measure within m_in = only-below measures m measure within.2 m_in
 goal-below measures (Ranked k ranks) measure within m_in = ranks-below measures ranks measure within.1.declared m_in
 
 pub measure-known : (checked : PlainChecked) (measure : ℕ) → IsWithinLimits checked

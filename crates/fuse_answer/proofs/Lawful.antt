@@ -109,21 +109,18 @@ module _ {E W : Type 0} (r : SemiringOn E) (of_mark : Mark → W → E) (weight_
 module _ {E W : Type 0} (r : SemiringOn E) (of_mark : Mark → W → E) (weight_reach : W → ℕ)
     (sound : (m : Mark) (w : W) → r.is_sound (of_mark m w))
     (reach : (m : Mark) (w : W) → r.reach (of_mark m w) ≤ weight_reach w)
-    (weight : Mark → W) (checked : PlainChecked) (rows : PlainRows) (keys : List ℕ) (size : ℕ) where
+    (weight : Mark → W) (checked : PlainChecked) (rows : PlainRows) (keys : List ℕ) where
   pub letters-lawful : first_heavy checked rows ≡ None
       → ((m : Mark) → m.label < label_count checked
       → weight_reach (weight m) ≤ row_weight checked rows (goal_measures checked.goal) m.row)
-      → length keys ≡ rows.count * label_count checked
-      → AllElements (λ key. key < size) (λ key. key) keys
       → (letters : List (Letter E)) → letters ≡ letters_of of_mark weight keys rows.count (label_count checked)
-      → AreLawful r size rows.count (label_count checked) letters
-  letters-lawful light near count elements letters is =
+      → AreLawful r rows.count (label_count checked) letters
+  letters-lawful light near letters is =
       let labels = label_count checked in
       let bound = row_weight checked rows (goal_measures checked.goal) in
       let within = weights-light checked rows (goal_measures checked.goal) light (λ m. weight_reach (weight m)) near in
-      subst (AreLawful r size rows.count labels) (sym is) (record {
+      subst (AreLawful r rows.count labels) (sym is) (record {
         count = length-map-range_with_len (letter_at of_mark weight keys labels) 0 (rows.count * labels);
-        keys = keys-are_elements of_mark weight keys rows.count labels size count elements;
         elems = elems-good r of_mark weight_reach sound reach weight bound keys rows.count labels within;
         within = reach-within r of_mark weight_reach sound reach weight bound keys rows.count labels within;
       })

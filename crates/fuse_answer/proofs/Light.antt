@@ -1,6 +1,6 @@
 -- Where no row is heavy, each weight and those of all rows together are within the bound of weights.
 use Rattle.std.proofs.Common.{◌≡◌, refl, ap, ◌∙◌, subst, ℕ, zero, suc, ◌+◌, ◌<◌, ◌≤◌, sum_by}
-use Rattle.std.proofs.Common.{Bool, true, false, List, [], ◌∷◌, nat_lt, arith}
+use Rattle.std.proofs.Common.{Bool, true, false, List, arith}
 use Rattle.std.specs.Prelude.{Some, None, unsigned_abs}
 use Rattle.std.specs.List.{find, range_with_len}
 use Rattle.std.proofs.lemmas.List.Sums.{sum-map}

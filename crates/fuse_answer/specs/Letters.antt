@@ -1,5 +1,5 @@
 -- The letters of a job's rows and labels.
-use Rattle.std.specs.Prelude.{◌≡◌, ℕ, ◌*◌, ◌/◌, ◌%◌, ◌<◌, ◌≤◌, List, length, map, slice_index_or}
+use Rattle.std.specs.Prelude.{◌≡◌, ℕ, ◌*◌, ◌/◌, ◌%◌, ◌≤◌, List, length, map, slice_index_or}
 use Rattle.std.specs.List.{range_with_len}
 use Rattle.monoid_kit.specs.Items.{AllElements}
 use Rattle.semiring_kit.specs.Semiring.{SemiringOn, IsGood, weight_bound}
@@ -25,9 +25,8 @@ abbrev pub letters_of : {E W : Type 0} → (Mark → W → E) → (Mark → W) �
 letters_of of_mark weight keys rows labels =
     map (letter_at of_mark weight keys labels) (range_with_len 0 (rows * labels))
 
--- a letter for each row and label, with keys that are elements and good values that all rows together keep good
-pub record AreLawful {E : Type 0} (r : SemiringOn E) (size rows labels : ℕ) (letters : List (Letter E)) : Type 0 where
+-- a letter for each row and label, with good values that all rows together keep good
+pub record AreLawful {E : Type 0} (r : SemiringOn E) (rows labels : ℕ) (letters : List (Letter E)) : Type 0 where
   pub count : length letters ≡ rows * labels
-  pub keys : AllElements (λ key. key < size) (λ letter. letter.key) letters
   pub elems : AllElements (IsGood r) (λ letter. letter.elem) letters
   pub within : rows_reach r labels letters 0 rows ≤ weight_bound

@@ -23,7 +23,7 @@ use Rattle.best_k.proofs.Sums.{run_sum_is_best}
 use Rattle.gta_checked.specs.Plain.{PlainChecked}
 use Rattle.gta_checked.specs.PlainRows.{PlainRows}
 use Rattle.gta_meaning.specs.Kept.{kept}
-use Rattle.gta_meaning.specs.Ranks.{best_ranked, best_totals, foremost, former, rank_before, rank_order}
+use Rattle.gta_meaning.specs.Ranks.{best_ranked, foremost, former, rank_before, rank_order}
 use Rattle.gta_meaning.specs.Ranks.{ranked_entry, totals_by}
 use Rattle.fuse_answer.specs.declared.ranks.Ranks.{Ranks}
 use Rattle.fuse_answer.specs.Ranks.{lex_of, list_of, printed, ranked_answer, ranks_weight, signed_lex, totals_answer}

@@ -1,6 +1,6 @@
 -- Two or three totals as one weight, of which the greatest is best: where the least total of a measure is asked for, its
 -- numbers are negated.
-use Rattle.std.specs.Prelude.{ℕ, ℤ, pos, neg_ℤ, Bool, cond, List, [], ◌∷◌, map, get_or, Option, Some, None}
+use Rattle.std.specs.Prelude.{ℤ, pos, neg_ℤ, Bool, cond, List, [], ◌∷◌, map, get_or, Option, Some, None}
 use Rattle.std.specs.Prelude.{option_map}
 use Rattle.shape_gen.specs.declared.mark.Mark.{Mark}
 use Rattle.semiring_kit.specs.declared.weight.Lex.{Lex}

@@ -1,5 +1,5 @@
 -- The weights of candidates are their totals, and the one that is chosen of a list is the fold of the choice.
-use Rattle.std.proofs.Common.{◌≡◌, ℕ, ℤ, ◌+ℤ◌, List, [], ◌∷◌, map, Option, Some, None, refl, sym, ap, ◌∙◌}
+use Rattle.std.proofs.Common.{◌≡◌, ℕ, ◌+ℤ◌, List, [], ◌∷◌, map, Option, Some, None, refl, sym, ap, ◌∙◌}
 use Rattle.std.specs.List.{fold}
 use Rattle.semiring_kit.specs.Aggregates.{chosen_of, total_weight}
 use Rattle.semiring_kit.specs.Chosen.{chosen}

@@ -30,12 +30,16 @@ pub(crate) fn letters_of<Q: Question>(
     requires weighed { AreWeighed (Q.measures question.now) prepared.now.job.checked.goal }
     requires count { let job = prepared.now.job in
         length keys.now ≡ job.rows.count * in_range.label_count job.checked }
-    ensures { let job = prepared.now.job in
+    ensures letters { let job = prepared.now.job in
         let of_mark = Q.Kit.of_mark (Q.kit question.now) in
         let weight = Q.weight question.now job.checked (plain_rows job.rows) in
         let labels = in_range.label_count job.checked in
         let all = letters.letters_of of_mark weight keys.now job.rows.count labels in
         IfOk result (λ made. made.items ≡ all) }
+    ensures lawful { let job = prepared.now.job in
+        let labels = in_range.label_count job.checked in
+        let ring = Q.Kit.ring (Q.kit question.now) in
+        IfOk result (λ made. letters.AreLawful ring job.rows.count labels made.items) }
 {
     let kit = question.kit();
     let labels = label_count(&prepared.job.checked) as usize;

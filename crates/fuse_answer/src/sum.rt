@@ -1,6 +1,7 @@
 //! The sum over the candidates that pass, in any semiring.
 
-ghost use Rattle.std.specs.Prelude.{◌≡◌, ◌≤◌, IfOk, length};
+ghost use Rattle.std.specs.Prelude.{◌≡◌, ◌<◌, ◌≤◌, IfOk, length};
+ghost use Rattle.monoid_kit.specs.Items.{AllElements};
 ghost use Rattle.step_count.specs.Blanks.{IsBlankOf};
 ghost use Rattle.semiring_kit.specs.Aggregates.{sum_over};
 ghost use Rattle.shape_gen.specs.Candidates.{candidates};
@@ -94,8 +95,10 @@ pub(crate) fn plan_by_letters<K: MapKit>(
     kit: K,
     letters: Vec<Letter<<K::Kit as Semiring>::Elem>>,
 ) -> Plan<K>
-    requires lawful { AreLawful (K.Kit.ring (K.kit kit)) (K.Keys.size (K.keys kit))
-        job.now.rows.count (in_range.label_count job.now.checked) letters.items }
+    requires keys_are_elements { let size = K.Keys.size (K.keys kit) in
+        AllElements (λ key. key < size) (λ letter. letter.key) letters.items }
+    requires lawful { let labels = in_range.label_count job.now.checked in
+        AreLawful (K.Kit.ring (K.kit kit)) job.now.rows.count labels letters.items }
     ensures { result ≡ record {
       shape = job.now.checked.shape;
       rows = job.now.rows.count;

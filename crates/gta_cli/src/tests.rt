@@ -1,8 +1,8 @@
 //! The worked examples over the top call: what is printed and where, limits of the input, and faults at each call.
 //! tests/specs.rt has those of specifications, with `show`; tests/table.rt those of tables, tests/shapes.rt those of
 //! what is generated, tests/answers.rt and tests/folds.rt those of tests and aggregates, tests/best.rt those of the
-//! best candidates, tests/keep.rt and tests/runs.rt those of versions 2 and 3, and tests/commands.rt those of the
-//! other commands. tests/cuts.rt has inputs and lines that are cut,
+//! best candidates, tests/keep.rt and tests/ranks.rt those of version 2, tests/runs.rt those of version 3, and
+//! tests/commands.rt those of the other commands. tests/cuts.rt has inputs and lines that are cut,
 //! tests/faults.rt calls that fail in turn.
 
 mod answers;
@@ -12,6 +12,7 @@ mod cuts;
 mod faults;
 mod folds;
 mod keep;
+mod ranks;
 mod runs;
 mod shapes;
 mod specs;

@@ -66,8 +66,8 @@ fn what_is_kept(rt: HostRuntime) -> Result<(), Fail> {
         ),
         (
             b"keep few\naggregate max v then min v\n",
+            b"answer 3 3\n",
             b"",
-            b"refused 1: not built yet\n",
         ),
     ];
     for (lines, out, err) in cases {

@@ -1,4 +1,4 @@
-use Rattle.std.proofs.Common.{◌≡◌, List, [], ◌∷◌, ◌++◌, map, ap, sym, ◌∙◌, append_assoc, arith}
+use Rattle.std.proofs.Common.{[], ◌∷◌, ◌++◌, map, ap, sym, ◌∙◌, append_assoc, arith}
 use Rattle.std.proofs.lemmas.List.{map-append}
 use Rattle.fuse_answer.specs.Ranks.{printed}
 use Rattle.worker_pool.proofs.Sharing.{all_gone_over, all_here}
@@ -19,6 +19,8 @@ loop-entry-preserved c =
       rest = here ∙ sym (append_assoc c.loop-entry.yielded (c.in-Some.entry ∷ []) _);
       so_far =
           c.in_ok-push.ensures.items
+          ∙ ap (λ t. c.loop-entry.all.items ++ record { total = t; witness = c.in-Some.entry.witness } ∷ [])
+          c.signed.ensures
           ∙ ap (λ es. es ++ printed c.args.ranks.now c.in-Some.entry ∷ []) c.loop-entry.invariant.so_far
           ∙ sym (map-append (printed c.args.ranks.now) c.loop-entry.yielded (c.in-Some.entry ∷ []));
     }
@@ -27,6 +29,6 @@ pub returns : goal.returns
 returns c =
     let none = c.in-None.ensures.steps.0 in
     let ok = c.loop-entry.entry-iterator.rest.ok in
-    c.loop-entry.invariant.so_far
+    c.of.ensures ∙ c.loop-entry.invariant.so_far
     ∙ ap (map (printed c.args.ranks.now))
     (sym (all_gone_over c.args.best c.loop-entry.yielded _ c.loop-entry.invariant.rest (omega arith)))

@@ -2,7 +2,7 @@ use Rattle.fuse_answer.proofs.sum.sum_of_kept.Goals as goal
 
 pub sum_by_keys-requires-clause-decide : goal.sum_by_keys-requires-clause-decide
 sum_by_keys-requires-clause-decide g c κs within =
-    rw (c.in_ok-keys.ensures, c.product.ensures, c.letters.ensures, c.accept.ensures) (record {
+    rw (c.in_ok-monoid.ensures, c.product.ensures, c.letters.ensures, c.accept.ensures) (record {
       count = c.args.prepared.now.prepared.count;
       keys_are_elements = c.args.prepared.now.prepared.keys;
       one_a_key = c.args.prepared.now.prepared.accept;

@@ -1,4 +1,5 @@
 -- Two proofs of one bound are equal.
+use Rattle.std.proofs.Common.{◌≡◌, true, refl, ap}
 use Rattle.std.proofs.Math.Bridge.{le_prop}
 use Rattle.fuse_answer.proofs.best_ranked.BestRankedQuestion.kit.Goals as goal
 
@@ -6,4 +7,6 @@ pub returns : goal.returns
 returns c =
     let some = le_prop c.result-1.given.0 c.args.self.now.some_kept in
     let few = le_prop c.result-1.given.1.0 c.args.self.now.few_kept in
-    cc (some, few)
+    let ranked : c.of.result ≡ record { greatest = true; totals = record {} } =
+    ap (λ greatest. record { greatest = greatest; totals = record {} }) c.of.ensures in
+    rw (ranked, some, few) refl
