@@ -22,18 +22,12 @@ stops bytes rest next long =
     let past : nat_lt INPUT_LIMIT (length bytes) ≡ true = grind (arith, nat_tests) in
     rw past refl
 
--- the same where what is built is asked for besides
-stops_all : {R S T : Type 0} (bytes : List ℕ) (rest : Result R Refusal) (next : R → Result S Refusal)
-    (last : S → Result T Refusal) → INPUT_LIMIT < length bytes
-    → and_then (and_then (unless (input_refusal bytes) rest) next) last ≡ Err (Input INPUT_LIMIT)
-stops_all bytes rest next last long = ap (λ step. and_then step last) (stops bytes rest next long)
-
 no_outcome : (command : Command) → (IsDrill command → ⊥) → (bytes : List ℕ) → INPUT_LIMIT < length bytes
     → outcome command bytes ≡ Err (Input INPUT_LIMIT)
 unfolding outcome report_outcome
-no_outcome (Run workers leaf) reads bytes long = stops_all bytes _ _ _ long
+no_outcome (Run workers leaf) reads bytes long = stops bytes _ _ long
 no_outcome Show reads bytes long = stops bytes _ _ long
-no_outcome ListKept reads bytes long = stops_all bytes _ _ _ long
+no_outcome ListKept reads bytes long = stops bytes _ _ long
 no_outcome (Drill seed rows workers leaf) reads bytes long = absurd (reads tt)
 
 are_long : (old new : Option (List ℕ)) → ConsumesSome old new (λ n. n ≡ INPUT_LIMIT + 1)
