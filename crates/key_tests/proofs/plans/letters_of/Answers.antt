@@ -69,7 +69,8 @@ loop-value-preserved g c =
     let new = c.push.new.self.items in
     let is = c.in_ok-push.ensures.items in
     let fits : SFits w64 c.from.result = rw c.from.ensures (search rules) in
-    let reach = λ (mark : Mark) (weight : ℤ).
+    let of_mark = g.S.Semiring.of_mark c.args.kit.now in
+    let reach : (mark : Mark) (weight : ℤ) → r.reach (of_mark mark weight) ≤ unsigned_abs weight = λ mark weight.
     let near = g.met.S.Semiring.mark_reach c.args.kit.now mark weight in
     let plain = c.requires.plain weight in
     omega (arith, near, plain) in
